@@ -1,0 +1,2 @@
+-- The lemma of the table.
+pub mod Entries

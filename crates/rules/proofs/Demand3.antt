@@ -1,0 +1,306 @@
+-- Demand 3, whole. What holds at an opening and is kept by every message: the book is whole, its tables say what fresh settlement says, its lines are
+-- what the rules give from them, and the records add up to what was sent. The claim's parts follow from that.
+use mathlib.Core.Path.{_≡_, refl, sym, ap, ap₂, _∙_, subst}
+use Prim.Native.Nat.{ℕ, suc, _+_, _≤_, _<_}
+use mathlib.Core.Bool.{Bool, true, false, _&&_}
+use mathlib.Core.List.{List, [], _∷_, _++_, append-nil}
+use mathlib.Core.Option.{Option, none, some}
+use lib.IntN.{ℤ, pos, natAbs, _+ℤ_, _-ℤ_}
+use lib.ListN.{length}
+use lib.Dec.{T, eqb}
+use borrow.Author.Tests.{eq-eqb}
+use native.Mathlib.Nat.{le-trans}
+use native.Mathlib.Omega.{arith}
+use Rattle.integers.specs.Linear.{back-again}
+use Rattle.integers.specs.Sums.{sumTo, sum-cong}
+use Rattle.rules.specs.declared.Body.{Body}
+use Rattle.rules.specs.declared.Body.the-variants.{Link, Stop, Quantity, Holder, State, Reading, Block, Round}
+use Rattle.rules.specs.declared.Message.{Message}
+use Rattle.rules.specs.declared.Record.{Record}
+use Rattle.rules.specs.Basics.{allIn, latest}
+use Rattle.rules.specs.Lines.{Measure, Facts, owedByHolder, line}
+use Rattle.rules.specs.World.{Opening, Tables, World, rowsOf, monthFirst, monthDays, termsOf, factsOf, stored, InBook}
+use Rattle.rules.specs.WellFormed.{withinLimits, rowsFit, lineLimit, elementRight, valueRight, earlier, linesRight, holdersRight, tablesRight, question2, question3, question4, question5}
+use Rattle.rules.specs.Messages.{understood, bodyIn}
+use Rattle.rules.specs.Questions.{pointOf}
+use Rattle.rules.specs.Effects.{told, movedLine, movedLines, isRound, sentAfter, records, written, writtenBy, recordsOf, tablesAfter, linesAfter, posted, question17, answer, accepted, stepBy, step}
+use Rattle.rules.specs.Opening.{openingAnswer, opened}
+use Rattle.rules.specs.Queries.{lineQuery, lineNamed, named}
+use Rattle.rules.specs.Fresh.{Fresh, heard, heardBody, hear, freshFacts}
+use Rattle.rules.specs.Claim.{Event, History, advance, advanceAll, begin, reached, total, Holds, reachedLimit, Kept, Demand3}
+use Rattle.rules.proofs.Tests.{cases, both, is-T}
+use Rattle.rules.proofs.Ranges.{all-at, latest-high}
+use Rattle.rules.proofs.ValuesRight.{recorded-high}
+use Rattle.rules.proofs.LineLaws.{SameAt, line-cong, line-but, pointLine-none, lines-total}
+use Rattle.rules.proofs.Bounds.{line-small}
+use Rattle.rules.proofs.Stored.{stored-lines, lines-right}
+use Rattle.rules.proofs.Rounds.{total-round}
+use Rattle.rules.proofs.Parts.{Limits, limits, table-each, TablesRight, tables-parts, Whole}
+use Rattle.rules.proofs.Passed.{about, round-body, Ready, Behind, behind, refused-17, Taken, taken}
+use Rattle.rules.proofs.Agree.{Agree, agree-told}
+use Rattle.rules.proofs.Kept.{told-right, posted-whole}
+use Rattle.rules.proofs.FreshLaws.{heard-other, same-unmoved, same-agree}
+use Rattle.rules.proofs.LineQuery.{query-stored, named-stored}
+use Rattle.rules.proofs.Small.{bounded}
+use Rattle.rules.proofs.Begin.{passed, begin-whole, begin-agree, begin-line, begin-sent, line-nothing}
+
+-- ---- one event, by the body that it was accepted with
+
+unfoldable after : History → Option Body → History
+after h x =
+    record {
+      world = stepBy (h .world) x;
+      fresh = heardBody (h .world .opening) (h .fresh) x;
+      records = h .records ++ writtenBy (h .world) x;
+    }
+
+advance-is : (h : History) (v : Event) → advance h v ≡ after h (accepted (h .world) (v .fields) (length (v .lent)))
+unfolding advance after step hear recordsOf accepted
+advance-is h v = refl
+
+refused : (h : History) → after h none ≡ h
+unfolding after stepBy heardBody writtenBy
+refused h = rw (append-nil (h .records))
+
+advance-snoc : (h : History) (vs : List Event) (v : Event) → advanceAll h (vs ++ (v ∷ [])) ≡ advance (advanceAll h vs) v
+unfolding advanceAll
+advance-snoc h [] v = refl
+advance-snoc h (u ∷ us) v = advance-snoc (advance h u) us v
+
+-- ---- what every history keeps
+
+abbrev linesOfRules : World → Type 0
+linesOfRules w = (m : Measure) (s e : ℕ) → InBook (w .opening) s e
+    → stored (w .opening) (w .position .lines) m s e ≡ line (termsOf (w .opening)) (factsOf (w .opening) (w .position .tables)) m s e
+
+record Inv (o : Opening) (h : History) : Type 0 where
+  opening : h .world .opening ≡ o
+  whole : Whole (h .world)
+  agree : Agree (h .world .opening) (h .world .position .tables) (h .fresh)
+  lines : linesOfRules (h .world)
+  sent : (m : Measure) (s e : ℕ) → InBook (h .world .opening) s e → total m s e (h .records) ≡ stored (h .world .opening) (h .world .sent .totals) m s e
+
+-- the rules' line from the tables is fresh settlement's
+line-fresh : (o : Opening) (t : Tables) (f : Fresh) → Agree o t f → (m : Measure) (s e : ℕ) → line (termsOf o) (factsOf o t) m s e ≡ line (termsOf o) (freshFacts f) m s e
+unfolding termsOf
+line-fresh o t f a m s e = line-cong (termsOf o) (factsOf o t) (freshFacts f) m s e (λ p k. same-agree o t f a p k)
+
+inv-begin : (w : World) → openingAnswer w ≡ 0 → Inv (w .opening) (begin (opened w))
+unfolding begin opened total
+inv-begin w e = record {
+  opening = refl;
+  whole = begin-whole w (passed w e);
+  agree = begin-agree w;
+  lines = λ m s x b. begin-line w m s x ∙ sym (line-fresh (w .opening) (opened w .position .tables) _ (begin-agree w) m s x ∙ line-nothing (termsOf (w .opening)) m s x (b .someone));
+  sent = λ m s x b. sym (begin-sent w m s x);
+}
+
+-- a line after a message is what the rules give then
+line-after : (w : World) (b : Body) → linesOfRules w → (m : Measure) (s e : ℕ) → InBook (w .opening) s e
+    → movedLine (w .opening) (w .position .lines) (w .position .tables) (tablesAfter w b) m s e ≡ line (termsOf (w .opening)) (factsOf (w .opening) (tablesAfter w b)) m s e
+unfolding movedLine
+line-after w b h m s e k =
+    rw (h m s e k) (back-again (line (termsOf (w .opening)) (factsOf (w .opening) (w .position .tables)) m s e) (line (termsOf (w .opening)) (factsOf (w .opening) (tablesAfter w b)) m s e))
+
+lines-posted : (w : World) (b : Body) → linesOfRules w → linesOfRules (posted w b)
+unfolding posted linesAfter movedLines
+lines-posted w b h m s e k = stored-lines (w .opening) _ m s e k ∙ line-after w b h m s e k
+
+sent-posted : (w : World) (b : Body) (xs : List Record) (m : Measure) (s e : ℕ) → InBook (w .opening) s e
+    → total m s e xs ≡ stored (w .opening) (w .sent .totals) m s e
+    → total m s e (xs ++ written w b) ≡ stored (w .opening) (sentAfter w b .totals) m s e
+unfolding written sentAfter
+sent-posted w b xs m s e k h = cases (isRound b)
+    (λ c. rw c (total-round w xs m s e k h))
+    (λ c. rw (c, append-nil xs) h)
+
+inv-after : (o : Opening) (h : History) → Inv o h → (v : Event) (b : Body) → accepted (h .world) (v .fields) (length (v .lent)) ≡ some b → Inv o (after h (some b))
+unfolding after stepBy heardBody writtenBy posted tablesAfter
+inv-after o h i v b e =
+    let k = taken (h .world) (v .fields) (length (v .lent)) b e in
+    record {
+      opening = i .opening;
+      whole = posted-whole (h .world) b (i .whole) (k .ready) (k .fits);
+      agree = agree-told (h .world .opening) (h .world .position .tables) (h .fresh) b (k .ready) (i .agree);
+      lines = lines-posted (h .world) b (i .lines);
+      sent = λ m s x c. sent-posted (h .world) b (h .records) m s x c (i .sent m s x c);
+    }
+
+inv-advance : (o : Opening) (h : History) → Inv o h → (v : Event) → Inv o (advance h v)
+inv-advance o h i v = rw (advance-is h v) (go (accepted (h .world) (v .fields) (length (v .lent))) refl)
+  where
+    go : (x : Option Body) → accepted (h .world) (v .fields) (length (v .lent)) ≡ x → Inv o (after h x)
+    go none e = subst (Inv o) (sym (refused h)) i
+    go (some b) e = inv-after o h i v b e
+
+inv-all : (o : Opening) (h : History) (vs : List Event) → Inv o h → Inv o (advanceAll h vs)
+unfolding advanceAll
+inv-all o h [] i = i
+inv-all o h (v ∷ vs) i = inv-all o (advance h v) vs (inv-advance o h i v)
+
+-- ---- the claim's parts, of any history that keeps that
+
+limits-of : (w : World) → Whole w → Limits (w .opening)
+unfolding question2
+limits-of w c = limits (w .opening) (both (withinLimits (w .opening)) _ (c .limited) .0)
+
+tables-of : (w : World) → Whole w → TablesRight (w .opening) (w .position .tables)
+unfolding question5
+tables-of w c = tables-parts (w .opening) (w .position .tables) (both (tablesRight (w .opening) (w .position .tables)) _ (c .right) .0)
+
+element-of : (w : World) → Whole w → (e : ℕ) → e < w .opening .elements → elementRight (w .opening) e ≡ true
+unfolding question4
+element-of w c e k = all-at _ _ (c .elements) e k
+
+-- whoever holds a point is a supplier of the book, or nobody
+holder-high : (o : Opening) (t : Tables) (f : Fresh) → Agree o t f → TablesRight o t → (p d : ℕ) → freshFacts f .holder p d ≤ o .suppliers
+unfolding freshFacts holdersRight
+holder-high o t f a r p d =
+    latest-high (f .holder p) (o .suppliers) d
+    (λ i v e. recorded-high 32 0 (o .suppliers) o (rowsOf (t .holders)) p i v
+    (table-each (earlier 32) (valueRight 32 0 (o .suppliers) o) (t .holders) (r .holders)) (a .holder p i ∙ e))
+
+inside : (m : Measure) → reachedLimit m ≤ lineLimit m
+unfolding reachedLimit lineLimit
+inside Measure.quantity = omega arith
+inside Measure.amount = omega arith
+
+one-false : (a b : Bool) → b ≡ true → a && b ≡ false → a ≡ false
+one-false true b h e = sym h ∙ e
+one-false false b h e = refl
+
+module _ (h : History) (o : Opening) (i : Inv o h) where
+  -- a stored line is fresh settlement's
+  stored-fresh : (m : Measure) (s e : ℕ) → InBook (h .world .opening) s e
+      → stored (h .world .opening) (h .world .position .lines) m s e ≡ line (termsOf (h .world .opening)) (freshFacts (h .fresh)) m s e
+  stored-fresh m s e b = i .lines m s e b ∙ line-fresh (h .world .opening) (h .world .position .tables) (h .fresh) (i .agree) m s e
+
+  query-fresh : (s e : ℕ) → InBook (h .world .opening) s e
+      → lineQuery (h .world) s e
+      ≡ lineNamed (line (termsOf (h .world .opening)) (freshFacts (h .fresh)) Measure.quantity s e) (line (termsOf (h .world .opening)) (freshFacts (h .fresh)) Measure.amount s e)
+  query-fresh s e b = query-stored (h .world) (i .whole) s e b ∙ ap₂ lineNamed (stored-fresh Measure.quantity s e b) (stored-fresh Measure.amount s e b)
+
+  named-fresh : (m : Measure) (s e : ℕ) → InBook (h .world .opening) s e
+      → named m (lineQuery (h .world) s e) ≡ line (termsOf (h .world .opening)) (freshFacts (h .fresh)) m s e
+  named-fresh m s e b = named-stored (h .world) (i .whole) s e b m ∙ stored-fresh m s e b
+
+  totals-of : (m : Measure) (e : ℕ) → e < h .world .opening .elements
+      → sumTo (λ s. named m (lineQuery (h .world) (suc s) e)) (h .world .opening .suppliers)
+      ≡ sumTo (λ p. sumTo (λ d. owedByHolder (termsOf (h .world .opening)) (freshFacts (h .fresh)) m p e (monthFirst (h .world .opening) + d)) (monthDays (h .world .opening))) (h .world .opening .points)
+  unfolding termsOf
+  totals-of m e k =
+      sum-cong _ _ (h .world .opening .suppliers) (λ s l. named-fresh m (suc s) e (record { someone = omega arith; supplier = l; element = k }))
+      ∙ lines-total (termsOf (h .world .opening)) (freshFacts (h .fresh)) m e (h .world .opening .suppliers)
+      (λ p d a b. holder-high (h .world .opening) (h .world .position .tables) (h .fresh) (i .agree) (tables-of (h .world) (i .whole)) p _)
+
+  small-of : (m : Measure) (s e : ℕ) → InBook (h .world .opening) s e → natAbs (named m (lineQuery (h .world) s e)) ≤ reachedLimit m
+  small-of m s e b =
+      rw (named-stored (h .world) (i .whole) s e b m, i .lines m s e b)
+      (line-small (termsOf (h .world .opening)) (factsOf (h .world .opening) (h .world .position .tables)) e
+      (bounded (h .world .opening) e (element-of (h .world) (i .whole) e (b .element)) (limits-of (h .world) (i .whole)) (h .world .position .tables) (tables-of (h .world) (i .whole))) m s)
+
+  -- lines never leave their bounds, so 17 is said for the rows' sake
+  lines-fit : (b : Body) → Ready (h .world .opening) (h .world .position .tables) b → linesRight (h .world .opening) (linesAfter (h .world) b) ≡ true
+  unfolding linesAfter movedLines
+  lines-fit b r = lines-right (h .world .opening) _ (λ m s e k. rw (line-after (h .world) b (i .lines) m s e k)
+      (le-trans (line-small (termsOf (h .world .opening)) (factsOf (h .world .opening) (tablesAfter (h .world) b)) e
+      (bounded (h .world .opening) e (element-of (h .world) (i .whole) e (k .element)) (limits-of (h .world) (i .whole)) (tablesAfter (h .world) b)
+      (unfold tablesAfter in told-right (h .world .opening) (h .world .position .tables) b r)) m s) (inside m)))
+
+  full-of : (v : Event) (b : Message) → understood (h .world .opening .suppliers) (v .fields) ≡ some b
+      → answer (h .world) (v .fields) (length (v .lent)) ≡ 17 → rowsFit (tablesAfter (h .world) (b .body)) ≡ false
+  unfolding question17
+  full-of v b u e =
+      let k = behind (h .world) (v .fields) (length (v .lent)) 17 (λ n x y z. omega arith) e in
+      let q : k .message ≡ b = let z : some (k .message) ≡ some b = sym (k .is) ∙ u in cc in
+      let f = refused-17 (h .world) (v .fields) (length (v .lent)) e k in
+      subst (λ (m : Message). rowsFit (tablesAfter (h .world) (m .body)) ≡ false) q
+      (one-false (rowsFit (tablesAfter (h .world) (k .message .body))) _ (lines-fit (k .message .body) (k .ready)) f)
+
+-- ---- and of one event more
+
+-- an accepted message that a supplier holds the point of on no day, before or after, changes no line of the supplier's
+module _ (h : History) (o : Opening) (i : Inv o h) (v : Event) (s e : ℕ) (b : InBook (h .world .opening) s e)
+    (before : Holds (h .world .opening) (h .fresh) s (v .fields .point) → ⊥) where
+  local-line : (x : Body) → accepted (h .world) (v .fields) (length (v .lent)) ≡ some x
+      → (Holds (h .world .opening) (heard (h .world .opening) (h .fresh) x) s (v .fields .point) → ⊥)
+      → (m : Measure) → line (termsOf (h .world .opening)) (freshFacts (heard (h .world .opening) (h .fresh) x)) m s e ≡ line (termsOf (h .world .opening)) (freshFacts (h .fresh)) m s e
+  unfolding termsOf
+  local-line x c z m =
+      let t = termsOf (h .world .opening) in
+      let k = taken (h .world) (v .fields) (length (v .lent)) x c in
+      let now = heard (h .world .opening) (h .fresh) x in
+      sym (line-but t (freshFacts (h .fresh)) (freshFacts now) m s e (v .fields .point)
+      (λ p l n. same-unmoved t (h .fresh) now p (heard-other (h .world .opening) (h .fresh) x p
+      (λ q. n (about (h .world .opening .suppliers) (v .fields) (k .message) (k .is) p (ap pointOf (k .body) ∙ q)))))
+      (pointLine-none t (freshFacts (h .fresh)) m s (v .fields .point) e (λ d l q. before record { day = d; inMonth = l; holder = q }))
+      (pointLine-none t (freshFacts now) m s (v .fields .point) e (λ d l q. z record { day = d; inMonth = l; holder = q })))
+
+  local-after : (x : Option Body) → accepted (h .world) (v .fields) (length (v .lent)) ≡ x
+      → (Holds (h .world .opening) (after h x .fresh) s (v .fields .point) → ⊥)
+      → lineQuery (after h x .world) s e ≡ lineQuery (h .world) s e
+  unfolding after stepBy heardBody posted
+  local-after none c z = refl
+  local-after (some x) c z =
+      query-fresh (after h (some x)) o (inv-after o h i v x c) s e b
+      ∙ ap₂ lineNamed (local-line x c z Measure.quantity) (local-line x c z Measure.amount)
+      ∙ sym (query-fresh h o i s e b)
+
+  local-of : (Holds (h .world .opening) (advance h v .fresh) s (v .fields .point) → ⊥) → lineQuery (advance h v .world) s e ≡ lineQuery (h .world) s e
+  local-of z = rw (advance-is h v) (local-after (accepted (h .world) (v .fields) (length (v .lent))) refl (rw (advance-is h v) at z))
+
+-- an accepted message of kind 8 is a round
+round-accepted : (w : World) (v : Event) → v .fields .kind ≡ 8 → answer w (v .fields) (length (v .lent)) ≡ 0 → accepted w (v .fields) (length (v .lent)) ≡ some Round
+unfolding accepted bodyIn
+round-accepted w v k a =
+    let c = behind w (v .fields) (length (v .lent)) 0 (λ n x y z. omega arith) a in
+    rw (a, c .is, round-body (w .opening .suppliers) (v .fields) k (c .message) (c .is))
+
+-- after an accepted round the records add up to the line
+round-total : (h : History) (o : Opening) → Inv o h → Inv o (after h (some Round)) → (m : Measure) (s e : ℕ) → InBook (h .world .opening) s e
+    → total m s e (after h (some Round) .records) ≡ named m (lineQuery (after h (some Round) .world) s e)
+unfolding after stepBy posted sentAfter isRound tablesAfter told
+round-total h o i j m s e b =
+    j .sent m s e b ∙ i .lines m s e b ∙ sym (j .lines m s e b) ∙ sym (named-stored (after h (some Round) .world) (j .whole) s e b m)
+
+rounds-of : (h : History) (o : Opening) → Inv o h → (v : Event) → accepted (h .world) (v .fields) (length (v .lent)) ≡ some Round
+    → (m : Measure) (s e : ℕ) → InBook (h .world .opening) s e → total m s e (advance h v .records) ≡ named m (lineQuery (advance h v .world) s e)
+rounds-of h o i v c m s e b = rw (advance-is h v, c) (round-total h o i (inv-after o h i v Round c) m s e b)
+
+-- ---- demand 3
+
+module _ (w : World) (a : openingAnswer w ≡ 0) (vs : List Event) where
+  abbrev x : History
+  x = advanceAll (begin (opened w)) vs
+
+  i : Inv (w .opening) x
+  i = inv-all (w .opening) (begin (opened w)) vs (inv-begin w a)
+
+  snoc : (v : Event) → advanceAll (begin (opened w)) (vs ++ (v ∷ [])) ≡ advance x v
+  snoc v = advance-snoc (begin (opened w)) vs v
+
+  pub kept : Kept w vs
+  kept = record {
+    fresh = subst (λ o. (s e : ℕ) → InBook o s e → lineQuery (x .world) s e
+        ≡ lineNamed (line (termsOf o) (freshFacts (x .fresh)) Measure.quantity s e) (line (termsOf o) (freshFacts (x .fresh)) Measure.amount s e))
+        (i .opening) (query-fresh x (w .opening) i);
+    local = λ v. subst (λ o. (s e : ℕ) → InBook o s e → (Holds o (x .fresh) s (v .fields .point) → ⊥)
+        → (Holds o (advanceAll (begin (opened w)) (vs ++ (v ∷ [])) .fresh) s (v .fields .point) → ⊥)
+        → lineQuery (advanceAll (begin (opened w)) (vs ++ (v ∷ [])) .world) s e ≡ lineQuery (x .world) s e)
+        (i .opening) (λ s e b n r. rw (snoc v) (local-of x (w .opening) i v s e b n (rw (snoc v) at r)));
+    rounds = λ v k q. subst (λ o. (m : Measure) (s e : ℕ) → InBook o s e
+        → total m s e (advanceAll (begin (opened w)) (vs ++ (v ∷ [])) .records) ≡ named m (lineQuery (advanceAll (begin (opened w)) (vs ++ (v ∷ [])) .world) s e))
+        (i .opening) (λ m s e b. rw (snoc v) (rounds-of x (w .opening) i v (round-accepted (x .world) v k q) m s e b));
+    totals = subst (λ (o : Opening). (m : Measure) (e : ℕ) → e < o .elements
+        → sumTo (λ s. named m (lineQuery (x .world) (suc s) e)) (o .suppliers)
+        ≡ sumTo (λ p. sumTo (λ d. owedByHolder (termsOf o) (freshFacts (x .fresh)) m p e (monthFirst o + d)) (monthDays o)) (o .points))
+        (i .opening) (totals-of x (w .opening) i);
+    whole = (is-T _ (i .whole .limited), (is-T _ (i .whole .sized), (is-T _ (i .whole .elements), is-T _ (i .whole .right))));
+    small = subst (λ o. (m : Measure) (s e : ℕ) → InBook o s e → natAbs (named m (lineQuery (x .world) s e)) ≤ reachedLimit m) (i .opening) (small-of x (w .opening) i);
+    full = λ v. subst (λ (o : Opening). (b : Message) → understood (o .suppliers) (v .fields) ≡ some b
+        → answer (x .world) (v .fields) (length (v .lent)) ≡ 17 → rowsFit (tablesAfter (x .world) (b .body)) ≡ false)
+        (i .opening) (full-of x (w .opening) i v);
+  }
+
+pub demand3 : Demand3
+demand3 w a vs = kept w a vs

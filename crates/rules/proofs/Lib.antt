@@ -1,0 +1,25 @@
+-- The laws of the definitions and the proof of demand 3, each file above what it cites.
+pub mod Tests
+pub mod Ranges
+pub mod Words
+pub mod Clauses
+pub mod Values
+pub mod Runs
+pub mod Reach
+pub mod Changes
+pub mod PeriodsRight
+pub mod ValuesRight
+pub mod LineLaws
+pub mod Bounds
+pub mod Stored
+pub mod Rounds
+pub mod Parts
+pub mod Passed
+pub mod Agree
+pub mod Kept
+pub mod FreshLaws
+pub mod LineQuery
+pub mod Small
+pub mod Begin
+pub mod Demand3
+pub mod MarkedCases

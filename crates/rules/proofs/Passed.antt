@@ -1,0 +1,300 @@
+-- What a message has passed that is accepted, or that only question 17 refuses.
+use Prim.Native.Nat.{ℕ, _+_, _≤_, _<_}
+use mathlib.Core.Path.{_≡_, refl, sym, _∙_, subst}
+use mathlib.Core.Logic.{_≢_}
+use mathlib.Core.Bool.{Bool, true, false, not, _&&_, _||_, cond}
+use mathlib.Core.Option.{Option, none, some}
+use lib.ListN.{length}
+use lib.Dec.{leb, ltb, eqb}
+use borrow.Author.Tests.{eqb-true, eq-eqb, leb-true, ltb-true, not-true}
+use native.Mathlib.Omega.{arith}
+use Rattle.rules.specs.declared.Fields.{Fields}
+use Rattle.rules.specs.declared.Sender.{Sender}
+use Rattle.rules.specs.declared.Body.{Body}
+use Rattle.rules.specs.declared.Body.the-variants.{Link, Stop, Quantity, Holder, State, Reading, Block, Round}
+use Rattle.rules.specs.declared.Message.{Message}
+use Rattle.rules.specs.Basics.{within, when, asked}
+use Rattle.rules.specs.World.{Opening, Tables, World, rowsOf, kindOf, isTariff, linkedOn, monthFirst, monthDays}
+use Rattle.rules.specs.WellFormed.{withinLimits, rowsFit, readingCount, openingSized, tablesSized, tablesRight, question2, question3, question4, question5}
+use Rattle.rules.specs.Messages.{isDay, noHour, noElement, isQuantity, senderOf, bodyOf, both as bothOf, understood, bodyIn}
+use Rattle.rules.specs.Questions.{pointOf, placeOf, tariffOnce, question7, question8, question9, question10, question11, question12, question13, question15, question16, ownNumber, ownQuestion}
+use Rattle.rules.specs.Effects.{ask, question17, question18, answerTo, askBook, answer, accepted}
+use Rattle.rules.proofs.Tests.{tests, cases, both}
+use Rattle.rules.proofs.Ranges.{within-low, within-high}
+use Rattle.rules.proofs.Runs.{linkedIn, linked-quantity}
+use Rattle.rules.proofs.Parts.{Limits, limits, readings-sized, TablesRight, tables-parts, links-run, Whole}
+
+-- ---- question 6: what holds of every body that fields can make
+
+module _ (suppliers : ℕ) (f : Fields) (P : Body → Type 0) where
+  pub record Made : Type 0 where
+    pub link : f .kind ≡ 1 → isDay (f .day) && (noHour f && isQuantity (f .value)) ≡ true → P (Link (f .point) (f .element) (f .day) (f .value))
+    pub stop : f .kind ≡ 2 → isDay (f .day) && (noHour f && eqb (f .value) 0) ≡ true → P (Stop (f .point) (f .element) (f .day))
+    pub quantity : f .kind ≡ 3 → isDay (f .day) && (noHour f && isQuantity (f .value)) ≡ true → P (Quantity (f .point) (f .element) (f .day) (f .value))
+    pub holder : f .kind ≡ 4 → isDay (f .day) && (noElement f && leb (f .value) suppliers) ≡ true → P (Holder (f .point) (f .day) (f .value))
+    pub state : f .kind ≡ 5 → isDay (f .day) && (noElement f && within 1 4 (f .value)) ≡ true → P (State (f .point) (f .day) (f .value))
+    pub reading : f .kind ≡ 6 → isDay (f .day) && (eqb (f .element) 0 && (ltb (f .hour) 24 && leb (f .value) 9999999)) ≡ true → P (Reading (f .point) (f .day) (f .hour) (f .value))
+    pub block : f .kind ≡ 7 → eqb (f .day) 0 && (noElement f && leb (f .value) 1) ≡ true → P (Block (f .point) (f .value))
+    pub round : P Round
+
+  module _ (b : Body) where
+    of-when : (t : Bool) (a : Body) → (t ≡ true → P a) → when t a ≡ some b → P b
+    unfolding when
+    of-when true a g e = let z : a ≡ b = cc in subst P z (g refl)
+    of-when false a g e = absurd (let z : _≡_ {A = ℕ} 0 1 = cc in omega arith)
+
+    of-cond : (n k : ℕ) (t : Bool) (a : Body) (y : Option Body) → (n ≡ k → t ≡ true → P a) → (y ≡ some b → P b) → cond (eqb n k) (when t a) y ≡ some b → P b
+    of-cond n k t a y g h e = cases (eqb n k)
+        (λ c. of-when t a (g (eqb-true n k c)) (rw c at e))
+        (λ c. h (rw c at e))
+
+    made-body : Made → bodyOf suppliers f ≡ some b → P b
+    unfolding bodyOf
+    made-body m =
+        of-cond (f .kind) 1 _ (Link (f .point) (f .element) (f .day) (f .value)) _ (m .link)
+        (of-cond (f .kind) 2 _ (Stop (f .point) (f .element) (f .day)) _ (m .stop)
+        (of-cond (f .kind) 3 _ (Quantity (f .point) (f .element) (f .day) (f .value)) _ (m .quantity)
+        (of-cond (f .kind) 4 _ (Holder (f .point) (f .day) (f .value)) _ (m .holder)
+        (of-cond (f .kind) 5 _ (State (f .point) (f .day) (f .value)) _ (m .state)
+        (of-cond (f .kind) 6 _ (Reading (f .point) (f .day) (f .hour) (f .value)) _ (m .reading)
+        (of-cond (f .kind) 7 _ (Block (f .point) (f .value)) _ (m .block)
+        (of-when _ Round (λ t. m .round))))))))
+
+  pub made : Made → (m : Message) → understood suppliers f ≡ some m → P (m .body)
+  unfolding understood bothOf
+  made k m e = cases (isDay (f .received))
+      (λ t. go (senderOf suppliers f) (bodyOf suppliers f) refl (rw t at e))
+      (λ t. let e′ : none ≡ some m = rw t at e in let z : _≡_ {A = ℕ} 0 1 = cc in absurd (omega arith))
+    where
+      go : (o : Option Sender) (c : Option Body) → bodyOf suppliers f ≡ c → bothOf (f .received) o c ≡ some m → P (m .body)
+      go none c q h = let z : _≡_ {A = ℕ} 0 1 = cc in absurd (omega arith)
+      go (some s) none q h = let z : _≡_ {A = ℕ} 0 1 = cc in absurd (omega arith)
+      go (some s) (some c) q h =
+          let z : m ≡ record { sender = s; received = f .received; body = c } = cc in
+          subst (λ (x : Message). P (x .body)) (sym z) (made-body c k q)
+
+-- a body's fields, as question 6 leaves them
+abbrev pub Ranged : ℕ → Body → Type 0
+Ranged suppliers (Link p e d q) = (d < 36525) × (1 ≤ q) × (q ≤ 999)
+Ranged suppliers (Stop p e d) = d < 36525
+Ranged suppliers (Quantity p e d q) = (d < 36525) × (1 ≤ q) × (q ≤ 999)
+Ranged suppliers (Holder p d h) = (d < 36525) × (h ≤ suppliers)
+Ranged suppliers (State p d v) = (d < 36525) × (1 ≤ v) × (v ≤ 4)
+Ranged suppliers (Reading p d h n) = (d < 36525) × (h < 24) × (n ≤ 9999999)
+Ranged suppliers (Block p b) = b ≤ 1
+Ranged suppliers Round = Unit {0}
+
+module _ (suppliers : ℕ) (f : Fields) where
+  -- a day, and the value's own test
+  day-value : (unused value : Bool) → isDay (f .day) && (unused && value) ≡ true → (f .day < 36525) × (value ≡ true)
+  unfolding isDay
+  day-value unused value h = let k = both (ltb (f .day) 36525) (unused && value) h in (ltb-true _ _ (k .0), both unused value (k .1) .1)
+
+  quantity-value : isDay (f .day) && (noHour f && isQuantity (f .value)) ≡ true → (f .day < 36525) × (1 ≤ f .value) × (f .value ≤ 999)
+  unfolding isQuantity
+  quantity-value t =
+      let k = day-value (noHour f) (within 1 999 (f .value)) t in
+      (k .0, within-low 1 999 (f .value) (k .1), within-high 1 999 (f .value) (k .1))
+
+  pub ranged : (m : Message) → understood suppliers f ≡ some m → Ranged suppliers (m .body)
+  ranged =
+      made suppliers f (Ranged suppliers) record {
+        link = λ _ t. quantity-value t;
+        stop = λ _ t. day-value (noHour f) (eqb (f .value) 0) t .0;
+        quantity = λ _ t. quantity-value t;
+        holder = λ _ t. let k = day-value (noElement f) (leb (f .value) suppliers) t in (k .0, leb-true _ _ (k .1));
+        state = λ _ t. let k = day-value (noElement f) (within 1 4 (f .value)) t in (k .0, within-low 1 4 (f .value) (k .1), within-high 1 4 (f .value) (k .1));
+        reading = λ _ t.
+            let k = day-value (eqb (f .element) 0) (ltb (f .hour) 24 && leb (f .value) 9999999) t in
+            let l = both (ltb (f .hour) 24) (leb (f .value) 9999999) (k .1) in
+            (k .0, ltb-true _ _ (l .0), leb-true _ _ (l .1));
+        block = λ _ t. leb-true _ _ (both (noElement f) (leb (f .value) 1) (both (eqb (f .day) 0) (noElement f && leb (f .value) 1) t .1) .1);
+        round = tt;
+      }
+
+  -- a message is about the point that its fields name, or about none
+  pub about : (m : Message) → understood suppliers f ≡ some m → (p : ℕ) → pointOf (m .body) ≡ some p → p ≡ f .point
+  unfolding pointOf
+  about =
+      made suppliers f (λ b. (p : ℕ) → pointOf b ≡ some p → p ≡ f .point) record {
+        link = λ _ t p e. cc;
+        stop = λ _ t p e. cc;
+        quantity = λ _ t p e. cc;
+        holder = λ _ t p e. cc;
+        state = λ _ t p e. cc;
+        reading = λ _ t p e. cc;
+        block = λ _ t p e. cc;
+        round = λ p e. let z : _≡_ {A = ℕ} 0 1 = cc in absurd (omega arith);
+      }
+
+  -- kind 8 is a round
+  pub round-body : f .kind ≡ 8 → (m : Message) → understood suppliers f ≡ some m → m .body ≡ Round
+  round-body e =
+      made suppliers f (λ b. b ≡ Round) record {
+        link = λ k t. absurd (omega arith);
+        stop = λ k t. absurd (omega arith);
+        quantity = λ k t. absurd (omega arith);
+        holder = λ k t. absurd (omega arith);
+        state = λ k t. absurd (omega arith);
+        reading = λ k t. absurd (omega arith);
+        block = λ k t. absurd (omega arith);
+        round = refl;
+      }
+
+-- ---- questions 7, 8 and a body's own, as facts
+
+module _ (o : Opening) (t : Tables) where
+  linked-on : (p e d : ℕ) → TablesRight o t → linkedOn t p e d ≡ linkedIn (rowsOf (t .links)) p e d
+  unfolding linkedOn
+  linked-on p e d r = linked-quantity p e d (links-run o (t .links) (r .links))
+
+  pub own-link : (p e d q : ℕ) → TablesRight o t → ownQuestion o t (Link p e d q) ≡ true → linkedIn (rowsOf (t .links)) p e d ≡ false
+  unfolding ownQuestion question13
+  own-link p e d q r h = sym (linked-on p e d r) ∙ not-true (linkedOn t p e d) h
+
+  pub own-quantity : (p e d q : ℕ) → TablesRight o t → ownQuestion o t (Quantity p e d q) ≡ true → (kindOf o e ≢ 3) × (linkedIn (rowsOf (t .links)) p e d ≡ true)
+  unfolding ownQuestion question15 isTariff
+  own-quantity p e d q r h =
+      let k = both (not (eqb (kindOf o e) 3)) (linkedOn t p e d) h in
+      let n : eqb (kindOf o e) 3 ≡ false = not-true (eqb (kindOf o e) 3) (k .0) in
+      (omega (arith, tests), sym (linked-on p e d r) ∙ k .1)
+
+  pub own-reading : (p d h n : ℕ) → ownQuestion o t (Reading p d h n) ≡ true → (monthFirst o ≤ d) × (d < monthFirst o + monthDays o)
+  unfolding ownQuestion question16
+  own-reading p d h n e = let k = both (leb (monthFirst o) d) (ltb d (monthFirst o + monthDays o)) e in (leb-true _ _ (k .0), ltb-true _ _ (k .1))
+
+  pub element-link : (p e d q : ℕ) → question8 o (Link p e d q) ≡ true → (e < o .elements) × (kindOf o e ≡ 3 → q ≡ 1)
+  unfolding question8 asked placeOf tariffOnce isTariff
+  element-link p e d q h =
+      let k = both (ltb e (o .elements)) (not (eqb (kindOf o e) 3) || eqb q 1) h in
+      (ltb-true _ _ (k .0), λ m. let z : eqb q 1 ≡ true = rw (eq-eqb (kindOf o e) 3 m) at (k .1) in omega (arith, tests))
+
+  pub element-stop : (p e d : ℕ) → question8 o (Stop p e d) ≡ true → e < o .elements
+  unfolding question8 asked placeOf tariffOnce
+  element-stop p e d h = ltb-true _ _ (both (ltb e (o .elements)) true h .0)
+
+  pub element-quantity : (p e d q : ℕ) → question8 o (Quantity p e d q) ≡ true → e < o .elements
+  unfolding question8 asked placeOf tariffOnce
+  element-quantity p e d q h = ltb-true _ _ (both (ltb e (o .elements)) true h .0)
+
+  pub point-inside : (b : Body) (p : ℕ) → pointOf b ≡ some p → question7 o b ≡ true → p < o .points
+  unfolding question7 asked
+  point-inside b p e h = ltb-true p (o .points) (rw e at h)
+
+-- ---- all that a body is known by when it is told
+
+pub record Ready (o : Opening) (t : Tables) (b : Body) : Type 0 where
+  pub limited : Limits o
+  pub readings : length (t .readings) ≡ readingCount o
+  pub right : TablesRight o t
+  pub point : question7 o b ≡ true
+  pub element : question8 o b ≡ true
+  pub own : ownQuestion o t b ≡ true
+  pub range : Ranged (o .suppliers) b
+
+-- ---- an answer that no question before 17 gives
+
+-- a passed question does not give its number
+pub asked-passed : (c : Bool) (n rest k : ℕ) → n ≢ k → ask c n rest ≡ k → (c ≡ true) × (rest ≡ k)
+unfolding ask
+asked-passed true n rest k h e = (refl, e)
+asked-passed false n rest k h e = absurd (h e)
+
+-- a body that is asked nothing of its own passes, whatever the number
+own-passed : (o : Opening) (t : Tables) (b : Body) (rest k : ℕ) → ((n : ℕ) → 2 ≤ n → n ≤ 16 → n ≢ k) → ask (ownQuestion o t b) (ownNumber b) rest ≡ k → (ownQuestion o t b ≡ true) × (rest ≡ k)
+unfolding ownNumber
+own-passed o t (Link p e d q) rest k h a = asked-passed _ 13 rest k (h 13 (omega arith) (omega arith)) a
+own-passed o t (Stop p e d) rest k h a = asked-passed _ 14 rest k (h 14 (omega arith) (omega arith)) a
+own-passed o t (Quantity p e d q) rest k h a = asked-passed _ 15 rest k (h 15 (omega arith) (omega arith)) a
+own-passed o t (Holder p d v) rest k h a = unfold ownQuestion ask in (refl, a)
+own-passed o t (State p d v) rest k h a = unfold ownQuestion ask in (refl, a)
+own-passed o t (Reading p d v n) rest k h a = asked-passed _ 16 rest k (h 16 (omega arith) (omega arith)) a
+own-passed o t (Block p v) rest k h a = unfold ownQuestion ask in (refl, a)
+own-passed o t Round rest k h a = unfold ownQuestion ask in (refl, a)
+
+-- what stands behind an answer: a whole book, a message that is ready to be told, and what questions 17 and 18 say of it
+pub record Behind (w : World) (f : Fields) (room k : ℕ) : Type 0 where
+  pub whole : Whole w
+  pub message : Message
+  pub is : understood (w .opening .suppliers) f ≡ some message
+  pub ready : Ready (w .opening) (w .position .tables) (message .body)
+  pub rest : ask (question17 w (message .body)) 17 (ask (question18 w (message .body) room) 18 0) ≡ k
+
+module _ (w : World) (f : Fields) (room k : ℕ) (h : (n : ℕ) → 2 ≤ n → n ≤ 16 → n ≢ k) where
+  behind-message : Whole w → (x : Option Message) → understood (w .opening .suppliers) f ≡ x → answerTo w x room ≡ k → Behind w f room k
+  unfolding answerTo question2 question3 question5
+  behind-message c none u e = absurd (h 6 (omega arith) (omega arith) e)
+  behind-message c (some m) u e =
+      let a7 = asked-passed (question7 (w .opening) (m .body)) 7 _ k (h 7 (omega arith) (omega arith)) e in
+      let a8 = asked-passed (question8 (w .opening) (m .body)) 8 _ k (h 8 (omega arith) (omega arith)) (a7 .1) in
+      let a9 = asked-passed (question9 (w .opening) (w .position .tables) (m .sender) (m .body)) 9 _ k (h 9 (omega arith) (omega arith)) (a8 .1) in
+      let a10 = asked-passed (question10 (m .sender) (m .received) (m .body)) 10 _ k (h 10 (omega arith) (omega arith)) (a9 .1) in
+      let a11 = asked-passed (question11 (w .position .tables) (m .body)) 11 _ k (h 11 (omega arith) (omega arith)) (a10 .1) in
+      let a12 = asked-passed (question12 (w .position .tables) (m .body)) 12 _ k (h 12 (omega arith) (omega arith)) (a11 .1) in
+      let own = own-passed (w .opening) (w .position .tables) (m .body) _ k h (a12 .1) in
+      record {
+        whole = c;
+        message = m;
+        is = u;
+        ready = record {
+          limited = limits (w .opening) (both (withinLimits (w .opening)) (rowsFit (w .position .tables)) (c .limited) .0);
+          readings = readings-sized (w .opening) (w .position .tables)
+              (both (tablesSized (w .opening) (w .position .tables)) _ (both (openingSized (w .opening)) _ (c .sized) .1) .0);
+          right = tables-parts (w .opening) (w .position .tables) (both (tablesRight (w .opening) (w .position .tables)) _ (c .right) .0);
+          point = a7 .0;
+          element = a8 .0;
+          own = own .0;
+          range = ranged (w .opening .suppliers) f m u;
+        };
+        rest = own .1;
+      }
+
+  pub behind : answer w f room ≡ k → Behind w f room k
+  unfolding answer askBook
+  behind e =
+      let a2 = asked-passed (question2 w) 2 _ k (h 2 (omega arith) (omega arith)) e in
+      let a3 = asked-passed (question3 w) 3 _ k (h 3 (omega arith) (omega arith)) (a2 .1) in
+      let a4 = asked-passed (question4 w) 4 _ k (h 4 (omega arith) (omega arith)) (a3 .1) in
+      let a5 = asked-passed (question5 w) 5 _ k (h 5 (omega arith) (omega arith)) (a4 .1) in
+      behind-message (record { limited = a2 .0; sized = a3 .0; elements = a4 .0; right = a5 .0 })
+      (understood (w .opening .suppliers) f) refl (a5 .1)
+
+-- 17 is said where the tables or the lines do not fit
+pub refused-17 : (w : World) (f : Fields) (room : ℕ) → answer w f room ≡ 17 → (b : Behind w f room 17) → question17 w (b .message .body) ≡ false
+unfolding ask
+refused-17 w f room e b = cases (question17 w (b .message .body))
+    (λ t. let r : ask (question18 w (b .message .body) room) 18 0 ≡ 17 = rw t at (b .rest) in absurd (never (question18 w (b .message .body) room) r))
+    (λ t. t)
+  where
+    never : (c : Bool) → ask c 18 0 ≡ 17 → ⊥
+    never true r = omega arith
+    never false r = omega arith
+
+-- ---- an accepted message
+
+pub record Taken (w : World) (f : Fields) (room : ℕ) (b : Body) : Type 0 where
+  pub answered : answer w f room ≡ 0
+  pub whole : Whole w
+  pub message : Message
+  pub is : understood (w .opening .suppliers) f ≡ some message
+  pub body : message .body ≡ b
+  pub ready : Ready (w .opening) (w .position .tables) b
+  pub fits : question17 w b ≡ true
+
+pub taken : (w : World) (f : Fields) (room : ℕ) (b : Body) → accepted w f room ≡ some b → Taken w f room b
+unfolding accepted bodyIn
+taken w f room b e = cases (eqb (answer w f room) 0)
+    (λ t. let z = eqb-true (answer w f room) 0 t in
+    let c = behind w f room 0 (λ n i j k. omega arith) z in
+    let y : some (c .message .body) ≡ some b = let k : bodyIn (understood (w .opening .suppliers) f) ≡ some b = rw t at e in rw (c .is) at k in
+    let x : c .message .body ≡ b = cc in
+    record {
+      answered = z;
+      whole = c .whole;
+      message = c .message;
+      is = c .is;
+      body = x;
+      ready = subst (Ready (w .opening) (w .position .tables)) x (c .ready);
+      fits = subst (λ b′. question17 w b′ ≡ true) x (asked-passed (question17 w (c .message .body)) 17 _ 0 (λ k. omega arith) (c .rest) .0);
+    })
+    (λ t. let e′ : none ≡ some b = rw t at e in let z : _≡_ {A = ℕ} 0 1 = cc in absurd (omega arith))

@@ -1,0 +1,41 @@
+-- Boolean tests and what they say.
+use Prim.Native.Nat.{ℕ}
+use mathlib.Core.Path.{_≡_, refl, sym, subst}
+use mathlib.Core.Logic.{_≢_}
+use mathlib.Core.Bool.{Bool, true, false, _&&_, _||_, cond, false≢true}
+use lib.Dec.{leb, ltb, eqb, T}
+use borrow.Author.Tests.{ltb-true, ltb-false, leb-true, leb-false, eqb-true, eqb-false, le-leb, lt-leb, eq-eqb, ne-eqb}
+use native.Mathlib.Omega.{arith}
+
+pub eqb-ne : (a b : ℕ) → eqb a b ≡ false → a ≢ b
+eqb-ne a b h = eqb-false a b h
+
+-- what omega reads of tests, and what it proves of them
+pub ruleset tests = (ltb-true, ltb-false, leb-true, leb-false, eqb-true, eqb-ne, le-leb, lt-leb, eq-eqb, ne-eqb)
+
+-- both cases of a test
+pub cases : {P : Type 0} (b : Bool) → (b ≡ true → P) → (b ≡ false → P) → P
+cases true f g = f refl
+cases false f g = g refl
+
+pub both : (a b : Bool) → (a && b) ≡ true → (a ≡ true) × (b ≡ true)
+both true b h = (refl, h)
+both false b h = absurd (false≢true h)
+
+pub neither : (a b : Bool) → (a || b) ≡ false → (a ≡ false) × (b ≡ false)
+neither true b h = absurd (false≢true (sym h))
+neither false b h = (refl, h)
+
+pub cond-same : {A : Type 0} (b : Bool) (x : A) → cond b x x ≡ x
+cond-same true x = refl
+cond-same false x = refl
+
+pub is-true : (b : Bool) → T b → b ≡ true
+is-true true h = refl
+is-true false h = absurd h
+
+pub is-T : (b : Bool) → b ≡ true → T b
+is-T b e = subst T (sym e) tt
+
+pub eqb-comm : (a b : ℕ) → eqb a b ≡ eqb b a
+eqb-comm a b = cases (eqb b a) (λ h. rw h (omega (arith, tests))) (λ h. rw h (omega (arith, tests)))

@@ -1,0 +1,54 @@
+-- "Each enum answer has a definition that gives this paper's number and values for each of its cases."
+use Prim.Native.Nat.{ℕ}
+use mathlib.Core.Path.{_≡_}
+use mathlib.Core.Option.{Option, none, some}
+use Rattle.rules.specs.declared.Book.{Book}
+use Rattle.rules.specs.declared.Answer.{Answer}
+use Rattle.rules.specs.declared.Answer.the-variants.{Accepted, BrokenField, OutOfLimits, WrongLength, WrongElement, IllFormed, OutOfRange, UnknownPoint, UnknownElement, NotPermitted, OutOfTime, NotExisting, Closed, AlreadyLinked, NothingToStop, NoSuchQuantity, OutsideMonth, TableFull, ListFull}
+use Rattle.rules.specs.declared.Opened.{Opened}
+use Rattle.rules.specs.declared.LineAnswer.{LineAnswer}
+use Rattle.rules.specs.declared.DayAnswer.{DayAnswer}
+use Rattle.rules.specs.World.{World}
+use Rattle.rules.specs.Queries.{LineResult, lineRefused, dayNumber, DayNamed, NoDayNamed}
+
+-- 0 for accepted, else the question's number
+abbrev pub numberOf : Answer → ℕ
+numberOf Accepted = 0
+numberOf BrokenField = 1
+numberOf OutOfLimits = 2
+numberOf WrongLength = 3
+numberOf WrongElement = 4
+numberOf IllFormed = 5
+numberOf OutOfRange = 6
+numberOf UnknownPoint = 7
+numberOf UnknownElement = 8
+numberOf NotPermitted = 9
+numberOf OutOfTime = 10
+numberOf NotExisting = 11
+numberOf Closed = 12
+numberOf AlreadyLinked = 13
+numberOf NothingToStop = 14
+numberOf NoSuchQuantity = 15
+numberOf OutsideMonth = 16
+numberOf TableFull = 17
+numberOf ListFull = 18
+
+-- an opening's number, and the book where it has one
+abbrev pub openedNumber : Opened → ℕ
+openedNumber (Opened.Book b) = 0
+openedNumber (Opened.Refused a) = numberOf a
+
+abbrev pub openedBook : Opened → Option Book
+openedBook (Opened.Book b) = some b
+openedBook (Opened.Refused a) = none
+
+-- a line query's number and values
+abbrev pub lineResult : LineAnswer → LineResult
+lineResult (LineAnswer.Line quantity kroner billionths) = record { number = 0; quantity = quantity; kroner = kroner; billionths = billionths }
+lineResult (LineAnswer.Refused a) = lineRefused (numberOf a)
+
+-- what holds of the answer to the query for a day without a holder
+abbrev pub DayAnswered : World → ℕ → DayAnswer → Type 0
+DayAnswered w p (DayAnswer.Day d) = DayNamed w p d
+DayAnswered w p DayAnswer.NoDay = NoDayNamed w p
+DayAnswered w p (DayAnswer.Refused a) = numberOf a ≡ dayNumber w p

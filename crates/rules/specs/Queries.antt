@@ -1,0 +1,80 @@
+-- The queries: "a query 2 to 5, then 6 for a supplier number (0 is refused), 7, 8". None changes anything.
+use Prim.Native.Nat.{ℕ, _+_}
+use mathlib.Core.Path.{_≡_}
+use mathlib.Core.Bool.{Bool, false, _&&_, cond}
+use mathlib.Core.List.{List, []}
+use lib.IntN.{ℤ, pos, natAbs}
+use lib.ListN.{getD}
+use lib.Dec.{T, eqb, leb, ltb}
+use Rattle.rules.specs.Basics.{within, anyTo}
+use Rattle.rules.specs.Rows.{pairRows}
+use Rattle.rules.specs.Lines.{Measure}
+use Rattle.rules.specs.World.{Opening, Tables, World, rowsOf, holderOn, stateOn, countingState, linkedOn, lineAt, amountOf, kronerOf, billionthsOf}
+use Rattle.rules.specs.Questions.{question16}
+use Rattle.rules.specs.Effects.{ask, askBook}
+
+-- ---- the line query
+
+-- its answer: 0 and the line's two numbers, the amount as kroner and billionths; or the number of a question, and zeros
+pub record LineResult : Type 0 where
+  pub number : ℕ
+  pub quantity : ℤ
+  pub kroner : ℤ
+  pub billionths : ℕ
+
+unfoldable pub lineNumber : World → (supplier element : ℕ) → ℕ
+lineNumber w s e = askBook w (ask (within 1 (w .opening .suppliers) s) 6 (ask (ltb e (w .opening .elements)) 8 0))
+
+unfoldable pub lineRefused : ℕ → LineResult
+lineRefused number = record { number = number; quantity = pos 0; kroner = pos 0; billionths = 0 }
+
+-- "it names the stored line"
+unfoldable pub lineStored : World → ℕ → LineResult
+lineStored w i =
+    record {
+      number = 0;
+      quantity = getD (w .position .lines) i (pos 0);
+      kroner = getD (w .position .lines) (i + 1) (pos 0);
+      billionths = natAbs (getD (w .position .lines) (i + 2) (pos 0));
+    }
+
+unfoldable pub lineQuery : World → (supplier element : ℕ) → LineResult
+lineQuery w s e =
+    cond (eqb (lineNumber w s e) 0) (lineStored w (lineAt (w .opening) s e)) (lineRefused (lineNumber w s e))
+
+-- the answer that names a quantity and an amount
+unfoldable pub lineNamed : ℤ → ℤ → LineResult
+lineNamed quantity amount = record { number = 0; quantity = quantity; kroner = kronerOf amount; billionths = billionthsOf amount }
+
+-- the number that an answer names, in one measure
+unfoldable pub named : Measure → LineResult → ℤ
+named Measure.quantity r = r .quantity
+named Measure.amount r = amountOf (r .kroner) (pos (r .billionths))
+
+-- ---- the periods of a point and element
+
+unfoldable pub periodsNumber : World → (point element : ℕ) → ℕ
+periodsNumber w p e = askBook w (ask (ltb p (w .opening .points)) 7 (ask (ltb e (w .opening .elements)) 8 0))
+
+-- "Everything recorded for one point and element is answered as that part of the link table; a refused query gives the empty part"
+unfoldable pub periodsQuery : World → (point element : ℕ) → List ℕ
+periodsQuery w p e = cond (eqb (periodsNumber w p e) 0) (pairRows p e (rowsOf (w .position .tables .links))) []
+
+-- ---- a day without a holder
+
+unfoldable pub dayNumber : World → (point : ℕ) → ℕ
+dayNumber w p = askBook w (ask (ltb p (w .opening .points)) 7 0)
+
+-- "a day of the month on which a given point counts but for a missing holder and has a link"
+unfoldable pub lacksHolder : Opening → Tables → (point day : ℕ) → Bool
+lacksHolder o t p d =
+    question16 o d && (eqb (holderOn t p d) 0 && (countingState (stateOn t p d) && anyTo (λ e. linkedOn t p e d) (o .elements)))
+
+-- a day that the query may name, and where it may answer "none"; "Which such day is left to the program"
+pub record DayNamed (w : World) (p d : ℕ) : Type 0 where
+  pub number : dayNumber w p ≡ 0
+  pub lacks : T (lacksHolder (w .opening) (w .position .tables) p d)
+
+pub record NoDayNamed (w : World) (p : ℕ) : Type 0 where
+  pub number : dayNumber w p ≡ 0
+  pub none : (d : ℕ) → lacksHolder (w .opening) (w .position .tables) p d ≡ false

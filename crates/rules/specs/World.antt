@@ -1,0 +1,242 @@
+-- A book with all that it was lent, as one value, and what it says of the month.
+use Prim.Native.Nat.{ℕ, _+_, _-_, _*_, _/_, _%_, _≤_, _<_}
+use mathlib.Core.Bool.{Bool, not, _||_, cond}
+use mathlib.Core.List.{List, _++_}
+use lib.IntN.{ℤ, pos, negsuc, _+ℤ_, _*ℤ_}
+use lib.ListN.{length, getD, take, replicate}
+use lib.Dec.{eqb}
+use Rattle.calendar.specs.Gregorian.{firstDay, daysOfMonth}
+use Rattle.rules.specs.declared.Book.{Book}
+use Rattle.rules.specs.Basics.{latest}
+use Rattle.rules.specs.Rows.{quantityOn, recordedOn, holderSize, stateSize}
+use Rattle.rules.specs.Lines.{Facts, Terms, Measure, tariff}
+
+-- ---- the parts of a world
+
+-- what the opening fixes: the month, the counts, each element's kind, owner and marks, and the prices
+pub record Opening : Type 0 where
+  pub year : ℕ
+  pub month : ℕ
+  pub points : ℕ
+  pub suppliers : ℕ
+  pub elements : ℕ
+  pub elementData : List ℕ
+  pub prices : List ℤ
+
+-- a table of rows: how many places are in use, and the words at all its places
+pub record Table : Type 0 where
+  pub used : ℕ
+  pub words : List ℕ
+
+-- what messages 1 to 7 record
+pub record Tables : Type 0 where
+  pub links : Table
+  pub holders : Table
+  pub states : Table
+  pub readings : List ℕ
+  pub blocks : List ℕ
+
+-- what is recorded and what is owed by it: three numbers a line
+pub record Position : Type 0 where
+  pub tables : Tables
+  pub lines : List ℤ
+
+-- what the rounds so far have sent, three numbers a line, and the kind of the next round
+pub record Sent : Type 0 where
+  pub totals : List ℤ
+  pub round : ℕ
+
+pub record World : Type 0 where
+  pub opening : Opening
+  pub position : Position
+  pub sent : Sent
+
+-- the world of a book and of the tables that are lent with it, in the order in which they are lent
+abbrev pub openingOf : Book → (elementData : List ℕ) (prices : List ℤ) → Opening
+openingOf b elementData prices =
+    record {
+      year = b .year;
+      month = b .month;
+      points = b .points;
+      suppliers = b .suppliers;
+      elements = b .elements;
+      elementData = elementData;
+      prices = prices;
+    }
+
+abbrev pub tablesOf : Book → (links holders states readings blocks : List ℕ) → Tables
+tablesOf b links holders states readings blocks =
+    record {
+      links = record { used = b .periods; words = links };
+      holders = record { used = b .holders; words = holders };
+      states = record { used = b .states; words = states };
+      readings = readings;
+      blocks = blocks;
+    }
+
+abbrev pub worldOf : Book → (elementData : List ℕ) (prices : List ℤ) (links holders states readings blocks : List ℕ) (lines sent : List ℤ) → World
+worldOf b elementData prices links holders states readings blocks lines sent =
+    record {
+      opening = openingOf b elementData prices;
+      position = record { tables = tablesOf b links holders states readings blocks; lines = lines };
+      sent = record { totals = sent; round = b .round };
+    }
+
+-- the book's own numbers
+abbrev pub bookOf : World → Book
+bookOf w =
+    record {
+      year = w .opening .year;
+      month = w .opening .month;
+      points = w .opening .points;
+      suppliers = w .opening .suppliers;
+      elements = w .opening .elements;
+      periods = w .position .tables .links .used;
+      holders = w .position .tables .holders .used;
+      states = w .position .tables .states .used;
+      round = w .sent .round;
+    }
+
+-- ---- tables of rows
+
+-- "1,024 periods, 1,024 holders, 1,024 states"
+abbrev pub places : ℕ
+places = 1024
+
+unfoldable pub rowsOf : Table → List ℕ
+rowsOf t = take (t .used) (t .words)
+
+-- "places past the last period, holder or state are 0"
+unfoldable pub tableOf : List ℕ → Table
+tableOf rows = record { used = length rows; words = rows ++ replicate (places - length rows) 0 }
+
+-- ---- the month and the elements
+
+unfoldable pub monthFirst : Opening → ℕ
+monthFirst o = firstDay (o .year) (o .month)
+
+unfoldable pub monthDays : Opening → ℕ
+monthDays o = daysOfMonth (o .year) (o .month)
+
+unfoldable pub kindOf : Opening → ℕ → ℕ
+kindOf o e = getD (o .elementData) (e * 3) 0
+
+unfoldable pub ownerOf : Opening → ℕ → ℕ
+ownerOf o e = getD (o .elementData) (e * 3 + 1) 0
+
+unfoldable pub marksOf : Opening → ℕ → ℕ
+marksOf o e = getD (o .elementData) (e * 3 + 2) 0
+
+-- "marks (1 VAT, 2 pass-on, 4 tax, 8 hourly)"
+abbrev pub passOn : ℕ
+passOn = 2
+
+abbrev pub tax : ℕ
+tax = 4
+
+abbrev pub hourly : ℕ
+hourly = 8
+
+unfoldable pub marked : Opening → ℕ → ℕ → Bool
+marked o mark e = eqb (marksOf o e / mark % 2) 1
+
+unfoldable pub isTariff : Opening → ℕ → Bool
+isTariff o e = eqb (kindOf o e) tariff
+
+-- "24 prices per element"
+abbrev pub pricePlaces : ℕ
+pricePlaces = 24
+
+-- "Every day has 24 hours, 0 to 23": the hours of a day, and the places that the readings of a point have for it
+unfoldable pub hoursOf : ℕ → ℕ
+hoursOf d = 24
+
+abbrev pub hourPlaces : ℕ
+hourPlaces = 24
+
+-- "An hourly tariff has 24 prices, any other element one"
+unfoldable pub priceOf : Opening → ℕ → ℕ → ℕ → ℤ
+priceOf o e d h = getD (o .prices) (e * pricePlaces + cond (marked o hourly e) h 0) (pos 0)
+
+unfoldable pub termsOf : Opening → Terms
+termsOf o =
+    record {
+      first = monthFirst o;
+      days = monthDays o;
+      points = o .points;
+      kind = kindOf o;
+      price = priceOf o;
+      hours = hoursOf;
+    }
+
+-- ---- what the tables say of a day
+
+-- "Holder from D, up to the next recorded holder": 0 where nobody holds the point
+unfoldable pub holderOn : Tables → ℕ → ℕ → ℕ
+holderOn t p d = latest (recordedOn holderSize (rowsOf (t .holders)) p) d
+
+-- "State from D, likewise: 1 new, 2 connected, 3 disconnected, 4 closed. Before its first state a point does not exist": 0
+unfoldable pub stateOn : Tables → ℕ → ℕ → ℕ
+stateOn t p d = latest (recordedOn stateSize (rowsOf (t .states)) p) d
+
+-- "the state is connected or disconnected"
+unfoldable pub countingState : ℕ → Bool
+countingState s = eqb s 2 || eqb s 3
+
+unfoldable pub linkedOn : Tables → ℕ → ℕ → ℕ → Bool
+linkedOn t p e d = not (eqb (quantityOn (rowsOf (t .links)) p e d) 0)
+
+-- where the reading of an hour of a day of the month stands
+unfoldable pub readingAt : Opening → ℕ → ℕ → ℕ → ℕ
+readingAt o p d h = (p * monthDays o + (d - monthFirst o)) * hourPlaces + h
+
+-- "An hour without a reading has 0 Wh"
+unfoldable pub energyOf : Opening → Tables → ℕ → ℕ → ℕ → ℕ
+energyOf o t p d h = getD (t .readings) (readingAt o p d h) 0
+
+unfoldable pub factsOf : Opening → Tables → Facts
+factsOf o t =
+    record {
+      holder = holderOn t;
+      counts = λ p d. countingState (stateOn t p d);
+      quantity = quantityOn (rowsOf (t .links));
+      energy = energyOf o t;
+    }
+
+-- ---- stored lines: quantity, kroner, billionths
+
+-- how many lines a book has, and how many numbers they take
+unfoldable pub lineCount : Opening → ℕ
+lineCount o = o .suppliers * o .elements
+
+-- where a line's three numbers begin
+unfoldable pub lineAt : Opening → ℕ → ℕ → ℕ
+lineAt o s e = ((s - 1) * o .elements + e) * 3
+
+-- "An amount is whole kroner and billionths from 0 to 999,999,999 that count upwards"
+unfoldable pub kronerOf : ℤ → ℤ
+kronerOf (pos n) = pos (n / 1000000000)
+kronerOf (negsuc n) = negsuc (n / 1000000000)
+
+unfoldable pub billionthsOf : ℤ → ℕ
+billionthsOf (pos n) = n % 1000000000
+billionthsOf (negsuc n) = 999999999 - n % 1000000000
+
+-- the amount in billionths
+unfoldable pub amountOf : ℤ → ℤ → ℤ
+amountOf kroner billionths = kroner *ℤ pos 1000000000 +ℤ billionths
+
+-- what is stored from place i on
+unfoldable pub storedAt : List ℤ → Measure → ℕ → ℤ
+storedAt ls Measure.quantity i = getD ls i (pos 0)
+storedAt ls Measure.amount i = amountOf (getD ls (i + 1) (pos 0)) (getD ls (i + 2) (pos 0))
+
+-- what is stored for a supplier and element
+unfoldable pub stored : Opening → List ℤ → Measure → ℕ → ℕ → ℤ
+stored o ls m s e = storedAt ls m (lineAt o s e)
+
+-- a supplier and an element of the book
+pub record InBook (o : Opening) (s e : ℕ) : Type 0 where
+  pub someone : 1 ≤ s
+  pub supplier : s ≤ o .suppliers
+  pub element : e < o .elements

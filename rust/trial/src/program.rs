@@ -1,0 +1,29 @@
+//! Runs a settlement program on given input.
+
+use std::io::Write;
+use std::process::{Command, Stdio};
+
+/// What the program prints for these bytes. The input is read from a pipe, so
+/// the program may stop before it has read everything.
+pub fn printed_by(program: &str, input: &[u8]) -> std::io::Result<String> {
+    let mut child = Command::new(program)
+        .stdin(Stdio::piped())
+        .stdout(Stdio::piped())
+        .spawn()?;
+    let mut stdin = child.stdin.take();
+    let input = input.to_vec();
+    // On a thread of its own: the program may print before it has read it all.
+    let writer = std::thread::spawn(move || {
+        if let Some(stdin) = &mut stdin {
+            // A program that has ended leaves the rest unread.
+            let _ = stdin.write_all(&input);
+        }
+    });
+    let output = child.wait_with_output()?;
+    let _ = writer.join();
+    let mut printed = String::from_utf8_lossy(&output.stdout).into_owned();
+    if !output.status.success() {
+        printed.push_str(&format!("{}\n", output.status));
+    }
+    Ok(printed)
+}
