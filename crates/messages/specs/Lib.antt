@@ -1,0 +1,3 @@
+-- What the answers of this crate's functions say.
+pub mod Found
+pub mod Decided

@@ -1,0 +1,12 @@
+-- What the functions of this crate add to tables of changes, and the laws that make it the rules' lines.
+pub mod Moved
+pub mod Shares
+pub mod Fits
+pub mod Small
+pub mod Segments
+pub mod PointRows
+pub mod Months
+pub mod Elsewhere
+pub mod DayOwed
+pub mod Moves
+pub mod Kinds

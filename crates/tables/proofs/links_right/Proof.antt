@@ -1,0 +1,71 @@
+-- `tables::links_right` meets its contract: every row passed fits, so what is left at the end is whether zeros follow.
+use Prim.Native.Nat.{ℕ, _-_, _≤_, _<_}
+use mathlib.Core.Path.{_≡_, sym, _∙_}
+use mathlib.Core.Bool.{true}
+use mathlib.Core.List.{[]}
+use native.Mathlib.Omega.{arith}
+use borrow.Author.Needs.{needs}
+use Rattle.rules.specs.World.{openingOf}
+use Rattle.rules.specs.WellFormed.{apart, periodRight, linksRight}
+use Rattle.tables.specs.Tests.{fitsAt}
+use Rattle.tables.proofs.Right.{table-rest, table-not, one-more}
+use Rattle.tables.proofs.links_right.Statement.{statement}
+use Rattle.tables.proofs.links_right.Tie as tie
+
+abbrev Inv-loop : tie.InvT-loop
+Inv-loop book element-data table used i₀ i = (i ≤ used) × ((k : ℕ) → k < i → fitsAt apart (periodRight (openingOf book element-data [])) table k ≡ true)
+
+abbrev μ-loop : tie.MeasureT-loop
+μ-loop book element-data table used i₀ i = used - i
+
+loop-holds : tie.Need-loop-holds Inv-loop μ-loop
+loop-holds c = (omega arith, (λ k h. absurd (omega arith)))
+
+period-fits-requires : tie.Need-period-fits-requires Inv-loop μ-loop
+period-fits-requires c κs = search needs
+
+add-i : tie.Need-add-i Inv-loop μ-loop
+add-i c = search needs
+
+loop-less : tie.Need-loop-less Inv-loop μ-loop
+loop-less c = search needs
+
+loop-again : tie.Need-loop-again Inv-loop μ-loop
+loop-again c =
+    let l = c .before .before .before .loop in
+    let a = c .before .before .before .before .before .before .args in
+    (omega arith, one-more (fitsAt apart (periodRight (openingOf (a .book) (a .element-data .now) [])) (a .table .now)) (l .i) (l .inv .1) (sym (c .before .period-fits .ensures) ∙ c .if1 .taken))
+
+returns : tie.Need-returns Inv-loop μ-loop
+unfolding linksRight
+returns c =
+    let l = c .before .before .before .loop in
+    let s = c .before .before .before .before .before .before in
+    let a = s .args in
+    table-not apart (periodRight (openingOf (a .book) (a .element-data .now) [])) (a .table .now) (a .used) (s .pre .1) (l .i) (omega arith) (sym (c .before .period-fits .ensures) ∙ c .if1 .left)
+
+zeros-behind-requires : tie.Need-zeros-behind-requires Inv-loop μ-loop
+zeros-behind-requires c κs = search needs
+
+returns-2 : tie.Need-returns-2 Inv-loop μ-loop
+unfolding linksRight
+returns-2 c =
+    let l = c .before .before .loop in
+    let s = c .before .before .before .before .before in
+    let a = s .args in
+    c .zeros-behind .ensures ∙ table-rest apart (periodRight (openingOf (a .book) (a .element-data .now) [])) (a .table .now) (a .used) (s .pre .1) (λ k h. l .inv .1 k (omega arith))
+
+pub links-right-spec : {M : Type 1} → statement M
+links-right-spec =
+    tie.close
+    (tie.spec
+    Inv-loop
+    μ-loop
+    loop-holds
+    period-fits-requires
+    add-i
+    loop-less
+    loop-again
+    returns
+    zeros-behind-requires
+    returns-2)
