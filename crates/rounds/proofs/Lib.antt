@@ -1,0 +1,3 @@
+-- Laws of what a round sends: for the proofs of the functions, and for callers.
+pub mod Numbers
+pub mod Sending

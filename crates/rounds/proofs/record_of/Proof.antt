@@ -1,0 +1,44 @@
+-- `rounds::record_of` meets its contract: supplier and element are read off the line's number, and the rest is how far the line has moved.
+-- Assumes nothing.
+use Prim.Native.Nat.{_<_}
+use native.Mathlib.Nat.{div-le-self}
+use Rattle.integers.specs.Integers.{abs-back}
+use Rattle.rounds.proofs.Numbers.{comparable, some-elements, few-lines}
+use Rattle.rounds.proofs.Sending.{record-is}
+use native.Mathlib.Omega.{arith}
+use borrow.Author.Needs.{needs}
+use Rattle.rounds.proofs.record_of.Statement.{statement}
+use Rattle.rounds.proofs.record_of.Tie as tie
+
+mul-moved-by : tie.Need-mul-moved-by
+mul-moved-by c = search needs
+
+moved-by-requires : tie.Need-moved-by-requires
+moved-by-requires c κs = comparable _ _ _ (c .pre .0) (c .args .k) (c .pre .1)
+
+has-elements : (c : tie.Start) → 0 < c .args .book .elements
+has-elements c = some-elements (c .args .k) (c .args .book .suppliers) (c .args .book .elements) (c .pre .1)
+
+div-t8 : tie.Need-div-t8
+div-t8 c = has-elements (c .before .before)
+
+add-t9 : tie.Need-add-t9
+add-t9 c =
+    let s = c .before .before in
+    let b = s .args .book in
+    let p = s .pre .0 in
+    record { fits = omega (arith, div-le-self (s .args .k) (b .elements), few-lines (b .suppliers) (b .elements) (p .suppliers) (p .elements)) }
+
+rem-t10 : tie.Need-rem-t10
+rem-t10 c = has-elements (c .before .before .before)
+
+returns : tie.Need-returns
+returns c w h =
+    let m = c .before .before .before in
+    let s = m .before in
+    let g = m .moved-by .ensures in
+    rw (abs-back (m .moved-by .result .quantity) (omega (arith, g .quantity-small)), abs-back (m .moved-by .result .kroner) (omega (arith, g .kroner-small)))
+    (record-is w _ _ _ h (s .args .k) (s .pre .1) (m .moved-by .result) _ _ g)
+
+pub record-of-spec : {M : Type 1} → statement M
+record-of-spec = tie.close (tie.spec mul-moved-by moved-by-requires div-t8 add-t9 rem-t10 returns)
