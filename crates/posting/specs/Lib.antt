@@ -10,3 +10,4 @@ pub mod Elsewhere
 pub mod DayOwed
 pub mod Moves
 pub mod Kinds
+pub mod Payment
