@@ -1,2 +1,5 @@
--- Laws that the proofs of this crate share.
-pub mod Arms
+-- Laws that the proofs of this crate share, and laws for callers.
+pub mod Next
+pub mod Asks
+pub mod Stops
+pub mod Whole

@@ -1,284 +1,35 @@
-// Questions 6 to 16: from raw fields, any numbers, to a message, and from a message to the first question that says no.
-// A match over the kind number and the role decides which fields, senders and questions apply.
+// Questions 7 to 16 of a message: the first that says no. A match over the body and the sender decides which questions apply.
 ghost use mathlib.Core.Path.{_≡_};
-ghost use Prim.Native.Nat.{_+_, _/_, _%_, _≤_, _<_};
+ghost use Prim.Native.Nat.{ℕ, _+_, _*_, _/_, _%_, _≤_, _<_};
 ghost use mathlib.Core.Bool.{not, _&&_, _||_};
+ghost use mathlib.Core.List.{List};
+ghost use lib.IntN.{ℤ};
+ghost use lib.ListN.{length, take};
 ghost use lib.Dec.{leb, ltb, eqb};
-ghost use Rattle.rules.specs.Basics.{within, when};
-ghost use Rattle.rules.specs.Messages.{senderOf, bodyOf, both, understood, isDay, noHour, noElement, isQuantity};
 ghost use Rattle.rules.specs.declared.Body.{Body};
-ghost use Rattle.rules.specs.Questions.{isGridCompany, isEnerginet, inTime};
+ghost use Rattle.calendar.specs.Gregorian.{InRange};
+ghost use Rattle.rules.specs.World.{openingOf, tablesOf, stateOn};
+ghost use Rattle.rules.specs.Questions.{isGridCompany, isEnerginet, inTime, mayLink, tariffOnce, question13, question14, question15, question16};
 ghost use Rattle.rules.specs.Effects.{ask};
 ghost use Rattle.rules.specs.Answers.{numberOf};
-ghost use Rattle.messages.specs.Decided.{linkRight};
-ghost use Rattle.messages.specs.Found.{senderIn, bodyIn, messageIn};
+ghost use Rattle.tables.specs.Order.{LinkRows, ValueRows, PairFits, DayFits};
+ghost use Rattle.messages.specs.Decided.{linkRight, decided, allowed, orNext, anyIn, startsBefore, endsAfter, Placed, Linked, Readable, InRanges};
+use calendar::days_in_month;
+use calendar::first_day;
+use pricing::kind_of;
+use pricing::marks_of;
+use pricing::owner_of;
 use rules::Answer;
 use rules::Body;
+use rules::Book;
 use rules::Fields;
 use rules::Message;
 use rules::Sender;
-
-// A sender whose role and number are in range, or none.
-pub enum FoundSender {
-    Known(Sender),
-    Unknown,
-}
-
-// A body whose fields are in range, or none.
-pub enum FoundBody {
-    Known(Body),
-    Unknown,
-}
-
-// A message that question 6 passes, or the refusal.
-pub enum Understood {
-    Passed(Message),
-    Refused,
-}
-
-// A number from low to high, both included.
-pub fn is_within(low: u64, high: u64, x: u64) -> bool
-    ensures { λ r. ⌜ r ≡ within low high x ⌝ }
-{
-    if low <= x { x <= high } else { false }
-}
-
-fn is_day(day: u64) -> bool
-    ensures { λ r. ⌜ r ≡ isDay day ⌝ }
-{
-    day < 36525
-}
-
-// Two fields that are not used.
-fn both_zero(a: u64, b: u64) -> bool
-    ensures { λ r. ⌜ r ≡ eqb a 0 && eqb b 0 ⌝ }
-{
-    if a == 0 { b == 0 } else { false }
-}
-
-// A sender where a test holds.
-fn sender_when(holds: bool, sender: Sender) -> FoundSender
-    ensures { λ r. ⌜ senderIn r ≡ when holds sender ⌝ }
-{
-    if holds {
-        FoundSender::Known(sender)
-    } else {
-        FoundSender::Unknown
-    }
-}
-
-// Roles: 1 grid company, 2 Energinet, 3 a supplier of the book.
-pub fn sender_of(suppliers: u64, f: Fields) -> FoundSender
-    ensures { λ r. ⌜ senderIn r ≡ senderOf suppliers f ⌝ }
-{
-    let role = f.role;
-    let sender = f.sender;
-    match role {
-        1 => sender_when(sender == 0, Sender::GridCompany),
-        2 => sender_when(sender == 0, Sender::Energinet),
-        3 => sender_when(is_within(1, suppliers, sender), Sender::Supplier(sender)),
-        _ => FoundSender::Unknown,
-    }
-}
-
-fn all_three(first: bool, second: bool, third: bool) -> bool
-    ensures { λ r. ⌜ r ≡ first && (second && third) ⌝ }
-{
-    if first {
-        if second { third } else { false }
-    } else {
-        false
-    }
-}
-
-// A body where three tests hold.
-fn body_when(first: bool, second: bool, third: bool, body: Body) -> FoundBody
-    ensures { λ r. ⌜ bodyIn r ≡ when (first && (second && third)) body ⌝ }
-{
-    if all_three(first, second, third) {
-        FoundBody::Known(body)
-    } else {
-        FoundBody::Unknown
-    }
-}
-
-// Kind 1.
-fn link_of(f: Fields) -> FoundBody
-    ensures { λ r. ⌜ bodyIn r ≡ when (isDay (f .day) && (noHour f && isQuantity (f .value))) (Body.Link (f .point) (f .element) (f .day) (f .value)) ⌝ }
-{
-    body_when(
-        is_day(f.day),
-        f.hour == 0,
-        is_within(1, 999, f.value),
-        Body::Link {
-            point: f.point,
-            element: f.element,
-            day: f.day,
-            quantity: f.value,
-        },
-    )
-}
-
-// Kind 2.
-fn stop_of(f: Fields) -> FoundBody
-    ensures { λ r. ⌜ bodyIn r ≡ when (isDay (f .day) && (noHour f && eqb (f .value) 0)) (Body.Stop (f .point) (f .element) (f .day)) ⌝ }
-{
-    body_when(
-        is_day(f.day),
-        f.hour == 0,
-        f.value == 0,
-        Body::Stop {
-            point: f.point,
-            element: f.element,
-            day: f.day,
-        },
-    )
-}
-
-// Kind 3.
-fn quantity_of(f: Fields) -> FoundBody
-    ensures { λ r. ⌜ bodyIn r ≡ when (isDay (f .day) && (noHour f && isQuantity (f .value))) (Body.Quantity (f .point) (f .element) (f .day) (f .value)) ⌝ }
-{
-    body_when(
-        is_day(f.day),
-        f.hour == 0,
-        is_within(1, 999, f.value),
-        Body::Quantity {
-            point: f.point,
-            element: f.element,
-            day: f.day,
-            quantity: f.value,
-        },
-    )
-}
-
-// Kind 4.
-fn holder_of(suppliers: u64, f: Fields) -> FoundBody
-    ensures { λ r. ⌜ bodyIn r ≡ when (isDay (f .day) && (noElement f && leb (f .value) suppliers)) (Body.Holder (f .point) (f .day) (f .value)) ⌝ }
-{
-    body_when(
-        is_day(f.day),
-        both_zero(f.element, f.hour),
-        f.value <= suppliers,
-        Body::Holder {
-            point: f.point,
-            day: f.day,
-            holder: f.value,
-        },
-    )
-}
-
-// Kind 5.
-fn state_of(f: Fields) -> FoundBody
-    ensures { λ r. ⌜ bodyIn r ≡ when (isDay (f .day) && (noElement f && within 1 4 (f .value))) (Body.State (f .point) (f .day) (f .value)) ⌝ }
-{
-    body_when(
-        is_day(f.day),
-        both_zero(f.element, f.hour),
-        is_within(1, 4, f.value),
-        Body::State {
-            point: f.point,
-            day: f.day,
-            state: f.value,
-        },
-    )
-}
-
-// The hour and the Wh of a reading.
-fn is_reading(hour: u64, energy: u64) -> bool
-    ensures { λ r. ⌜ r ≡ ltb hour 24 && leb energy 9999999 ⌝ }
-{
-    if hour < 24 { energy <= 9999999 } else { false }
-}
-
-// Kind 6.
-fn reading_of(f: Fields) -> FoundBody
-    ensures { λ r. ⌜ bodyIn r ≡ when (isDay (f .day) && (eqb (f .element) 0 && (ltb (f .hour) 24 && leb (f .value) 9999999))) (Body.Reading (f .point) (f .day) (f .hour) (f .value)) ⌝ }
-{
-    body_when(
-        is_day(f.day),
-        f.element == 0,
-        is_reading(f.hour, f.value),
-        Body::Reading {
-            point: f.point,
-            day: f.day,
-            hour: f.hour,
-            energy: f.value,
-        },
-    )
-}
-
-// Kind 7.
-fn block_of(f: Fields) -> FoundBody
-    ensures { λ r. ⌜ bodyIn r ≡ when (eqb (f .day) 0 && (noElement f && leb (f .value) 1)) (Body.Block (f .point) (f .value)) ⌝ }
-{
-    body_when(
-        f.day == 0,
-        both_zero(f.element, f.hour),
-        f.value <= 1,
-        Body::Block {
-            point: f.point,
-            blocked: f.value,
-        },
-    )
-}
-
-// Kind 8.
-fn round_of(f: Fields) -> FoundBody
-    ensures { λ r. ⌜ bodyIn r ≡ when (eqb (f .point) 0 && (noElement f && (eqb (f .day) 0 && eqb (f .value) 0))) Body.Round ⌝ }
-{
-    body_when(
-        f.point == 0,
-        both_zero(f.element, f.hour),
-        both_zero(f.day, f.value),
-        Body::Round,
-    )
-}
-
-// The body that the kind number asks for.
-pub fn body_of(suppliers: u64, f: Fields) -> FoundBody
-    ensures { λ r. ⌜ bodyIn r ≡ bodyOf suppliers f ⌝ }
-{
-    let kind = f.kind;
-    match kind {
-        1 => link_of(f),
-        2 => stop_of(f),
-        3 => quantity_of(f),
-        4 => holder_of(suppliers, f),
-        5 => state_of(f),
-        6 => reading_of(f),
-        7 => block_of(f),
-        8 => round_of(f),
-        _ => FoundBody::Unknown,
-    }
-}
-
-fn joined(received: u64, sender: FoundSender, body: FoundBody) -> Understood
-    ensures { λ r. ⌜ messageIn r ≡ both received (senderIn sender) (bodyIn body) ⌝ }
-{
-    let FoundSender::Known(s) = sender else {
-        return Understood::Refused;
-    };
-    let FoundBody::Known(b) = body else {
-        return Understood::Refused;
-    };
-    Understood::Passed(Message {
-        sender: s,
-        received: received,
-        body: b,
-    })
-}
-
-// Question 6, of any fields.
-pub fn understand(suppliers: u64, f: Fields) -> Understood
-    ensures { λ r. ⌜ messageIn r ≡ understood suppliers f ⌝ }
-{
-    if is_day(f.received) {
-        joined(f.received, sender_of(suppliers, f), body_of(suppliers, f))
-    } else {
-        Understood::Refused
-    }
-}
+use tables::end_of;
+use tables::first_of;
+use tables::pair_part;
+use tables::quantity_on;
+use tables::value_on;
 
 // ---- questions 9 to 12, of the numbers that they look at
 
@@ -406,5 +157,381 @@ pub fn number(answer: Answer) -> u64
         Answer::OutsideMonth => 16,
         Answer::TableFull => 17,
         Answer::ListFull => 18,
+    }
+}
+
+// ---- questions 7 to 16 of a well-formed book
+
+// What kinds 1 to 3 are about: a point, an element, the given day, and the quantity, 0 for a stop.
+pub struct Place {
+    pub point: u64,
+    pub element: u64,
+    pub day: u64,
+    pub quantity: u64,
+}
+
+fn place_at(point: u64, element: u64, day: u64, quantity: u64) -> Place
+    ensures { λ r. ⌜ r ≡ record { point = point; element = element; day = day; quantity = quantity } ⌝ }
+{
+    Place {
+        point: point,
+        element: element,
+        day: day,
+        quantity: quantity,
+    }
+}
+
+// The first answer, or the next where the first accepts.
+fn first_no(first: Answer, next: Answer) -> Answer
+    ensures { λ r. ⌜ numberOf r ≡ orNext (numberOf first) (numberOf next) ⌝ }
+{
+    if number(first) == 0 { next } else { first }
+}
+
+// Questions 7 and 8 of a place: the point and the element are in the book.
+fn is_known(book: Book, point: u64, element: u64) -> Answer
+    ensures { λ r. ⌜ numberOf r ≡ ask (ltb point (book .points)) 7 (ask (ltb element (book .elements)) 8 0) ⌝ }
+{
+    if point < book.points {
+        if element < book.elements {
+            Answer::Accepted
+        } else {
+            Answer::UnknownElement
+        }
+    } else {
+        Answer::UnknownPoint
+    }
+}
+
+// Question 8 of a link: the quantity is 1 where a tariff is linked.
+fn tariff_once(element_data: &[u8], element: u64, quantity: u64) -> Answer
+    requires { ⌜ element * 3 + 2 < length (now element_data) ⌝ }
+    ensures { λ r. ⌜ ((b : Book) (ps : List ℤ) (p d : ℕ) → numberOf r ≡ ask (tariffOnce (openingOf b (now (element_data .entry)) ps) (Body.Link p element d quantity)) 8 0) ⌝ }
+{
+    if kind_of(element_data, element as usize) == 3 {
+        if quantity == 1 {
+            Answer::Accepted
+        } else {
+            Answer::UnknownElement
+        }
+    } else {
+        Answer::Accepted
+    }
+}
+
+// Question 9 of kinds 1 to 3.
+fn is_permitted(
+    book: Book,
+    element_data: &[u8],
+    holders: &[u64],
+    blocks: &[u8],
+    sender: Sender,
+    place: Place,
+) -> bool
+    requires { ⌜ Placed book (place .point) (place .element) (place .day) ⌝ }
+    requires { ⌜ (length (now element_data) ≡ book .elements * 3) × (length (now blocks) ≡ book .points) ⌝ }
+    requires { ⌜ ValueRows 32 (now holders) (book .holders) ⌝ }
+    ensures { λ r. ⌜ ((ps : List ℤ) (ls ss rs : List ℕ) → r ≡ mayLink (openingOf book (now (element_data .entry)) ps) (tablesOf book ls (now (holders .entry)) ss rs (now (blocks .entry))) sender (record { point = place .point; element = place .element; day = place .day })) ⌝ }
+{
+    let at = place.element as usize;
+    let point = place.point as usize;
+    let used = book.holders as usize;
+    may_link(
+        sender,
+        owner_of(element_data, at),
+        kind_of(element_data, at),
+        marks_of(element_data, at),
+        blocks[point],
+        value_on(holders, used, 32, place.point, place.day),
+    )
+}
+
+// Questions 9 to 12 of kinds 1 to 3.
+fn is_allowed(
+    book: Book,
+    element_data: &[u8],
+    holders: &[u64],
+    states: &[u64],
+    blocks: &[u8],
+    m: Message,
+    place: Place,
+) -> Answer
+    requires { ⌜ Placed book (place .point) (place .element) (place .day) ⌝ }
+    requires { ⌜ (length (now element_data) ≡ book .elements * 3) × (length (now blocks) ≡ book .points) ⌝ }
+    requires { ⌜ (ValueRows 32 (now holders) (book .holders)) × (ValueRows 8 (now states) (book .states)) ⌝ }
+    requires { ⌜ m .received < 36525 ⌝ }
+    ensures { λ r. ⌜ ((ps : List ℤ) (ls rs : List ℕ) → numberOf r ≡ allowed (openingOf book (now (element_data .entry)) ps) (tablesOf book ls (now (holders .entry)) (now (states .entry)) rs (now (blocks .entry))) (m .sender) (m .received) (place .point) (place .element) (place .day) 0) ⌝ }
+{
+    let sender = m.sender;
+    if is_permitted(book, element_data, holders, blocks, sender, place) {
+        if in_time(sender, m.received, place.day) {
+            let used = book.states as usize;
+            state_allows(value_on(states, used, 8, place.point, place.day))
+        } else {
+            Answer::OutOfTime
+        }
+    } else {
+        Answer::NotPermitted
+    }
+}
+
+// Question 13: the element is not linked that day.
+fn is_free(book: Book, links: &[u64], place: Place) -> Answer
+    requires { ⌜ Placed book (place .point) (place .element) (place .day) ⌝ }
+    requires { ⌜ LinkRows (now links) (book .periods) ⌝ }
+    ensures { λ r. ⌜ ((hs ss rs bs : List ℕ) → numberOf r ≡ ask (question13 (tablesOf book (now (links .entry)) hs ss rs bs) (place .point) (place .element) (place .day)) 13 0) ⌝ }
+{
+    let used = book.periods as usize;
+    if quantity_on(links, used, place.point, place.element, place.day) == 0 {
+        Answer::Accepted
+    } else {
+        Answer::AlreadyLinked
+    }
+}
+
+// Does some row start before the day. Linear in the rows lent.
+fn starts_before(rows: &[u64], day: u64) -> bool
+    ensures { λ r. ⌜ r ≡ anyIn (startsBefore day) (now (rows .entry)) ⌝ }
+{
+    let mut i = 0;
+    while i < rows.len() {
+        if first_of(rows[i]) < day {
+            return true;
+        }
+        i += 1;
+    }
+    false
+}
+
+// Does some row end after the day. Linear in the rows lent.
+fn ends_after(rows: &[u64], day: u64) -> bool
+    ensures { λ r. ⌜ r ≡ anyIn (endsAfter day) (now (rows .entry)) ⌝ }
+{
+    let mut i = 0;
+    while i < rows.len() {
+        if day < end_of(rows[i]) {
+            return true;
+        }
+        i += 1;
+    }
+    false
+}
+
+// Question 14: some day before the day is linked, and some day from it on.
+fn can_stop(book: Book, links: &[u64], place: Place) -> Answer
+    requires { ⌜ Placed book (place .point) (place .element) (place .day) ⌝ }
+    requires { ⌜ Linked (now links) (book .periods) ⌝ }
+    ensures { λ r. ⌜ ((hs ss rs bs : List ℕ) → numberOf r ≡ ask (question14 (tablesOf book (now (links .entry)) hs ss rs bs) (place .point) (place .element) (place .day)) 14 0) ⌝ }
+{
+    let used = book.periods as usize;
+    let rows = pair_part(links, used, place.point, place.element);
+    if starts_before(rows, place.day) {
+        if ends_after(rows, place.day) {
+            Answer::Accepted
+        } else {
+            Answer::NothingToStop
+        }
+    } else {
+        Answer::NothingToStop
+    }
+}
+
+// Question 15: no tariff, and linked that day.
+fn can_change(book: Book, element_data: &[u8], links: &[u64], place: Place) -> Answer
+    requires { ⌜ Placed book (place .point) (place .element) (place .day) ⌝ }
+    requires { ⌜ length (now element_data) ≡ book .elements * 3 ⌝ }
+    requires { ⌜ LinkRows (now links) (book .periods) ⌝ }
+    ensures { λ r. ⌜ ((ps : List ℤ) (hs ss rs bs : List ℕ) → numberOf r ≡ ask (question15 (openingOf book (now (element_data .entry)) ps) (tablesOf book (now (links .entry)) hs ss rs bs) (place .point) (place .element) (place .day)) 15 0) ⌝ }
+{
+    let used = book.periods as usize;
+    if kind_of(element_data, place.element as usize) == 3 {
+        Answer::NoSuchQuantity
+    } else if quantity_on(links, used, place.point, place.element, place.day) == 0 {
+        Answer::NoSuchQuantity
+    } else {
+        Answer::Accepted
+    }
+}
+
+// Question 16: the day is in the month.
+fn in_month(book: Book, day: u64) -> Answer
+    requires { ⌜ InRange (book .year) (book .month) ⌝ }
+    ensures { λ r. ⌜ ((ds : List ℕ) (ps : List ℤ) → numberOf r ≡ ask (question16 (openingOf book ds ps) day) 16 0) ⌝ }
+{
+    let first = first_day(book.year, book.month);
+    if first <= day {
+        if day < first + days_in_month(book.year, book.month) {
+            Answer::Accepted
+        } else {
+            Answer::OutsideMonth
+        }
+    } else {
+        Answer::OutsideMonth
+    }
+}
+
+// Questions 7 and 9 of kinds 4 to 7: the point is in the book, and the sender may.
+fn is_sent(book: Book, point: u64, may: bool) -> Answer
+    ensures { λ r. ⌜ numberOf r ≡ ask (ltb point (book .points)) 7 (ask may 9 0) ⌝ }
+{
+    if point < book.points {
+        if may {
+            Answer::Accepted
+        } else {
+            Answer::NotPermitted
+        }
+    } else {
+        Answer::UnknownPoint
+    }
+}
+
+// Questions 7 to 13 of a link.
+fn decide_link(
+    book: Book,
+    element_data: &[u8],
+    links: &[u64],
+    holders: &[u64],
+    states: &[u64],
+    blocks: &[u8],
+    m: Message,
+    at: Place,
+) -> Answer
+    requires { ⌜ ((ps : List ℤ) (rs : List ℕ) → Readable (openingOf book (now element_data) ps) (tablesOf book (now links) (now holders) (now states) rs (now blocks))) ⌝ }
+    requires { ⌜ (m .received < 36525) × (at .day < 36525) ⌝ }
+    requires { ⌜ m .body ≡ Body.Link (at .point) (at .element) (at .day) (at .quantity) ⌝ }
+    ensures { λ r. ⌜ ((ps : List ℤ) (rs : List ℕ) → numberOf r ≡ decided (openingOf book (now (element_data .entry)) ps) (tablesOf book (now (links .entry)) (now (holders .entry)) (now (states .entry)) rs (now (blocks .entry))) m 0) ⌝ }
+{
+    let known = is_known(book, at.point, at.element);
+    if number(known) == 0 {
+        let once = tariff_once(element_data, at.element, at.quantity);
+        let allowed = is_allowed(book, element_data, holders, states, blocks, m, at);
+        first_no(once, first_no(allowed, is_free(book, links, at)))
+    } else {
+        known
+    }
+}
+
+// Questions 7 to 14 of a stop.
+fn decide_stop(
+    book: Book,
+    element_data: &[u8],
+    links: &[u64],
+    holders: &[u64],
+    states: &[u64],
+    blocks: &[u8],
+    m: Message,
+    at: Place,
+) -> Answer
+    requires { ⌜ ((ps : List ℤ) (rs : List ℕ) → Readable (openingOf book (now element_data) ps) (tablesOf book (now links) (now holders) (now states) rs (now blocks))) ⌝ }
+    requires { ⌜ (m .received < 36525) × (at .day < 36525) ⌝ }
+    requires { ⌜ m .body ≡ Body.Stop (at .point) (at .element) (at .day) ⌝ }
+    ensures { λ r. ⌜ ((ps : List ℤ) (rs : List ℕ) → numberOf r ≡ decided (openingOf book (now (element_data .entry)) ps) (tablesOf book (now (links .entry)) (now (holders .entry)) (now (states .entry)) rs (now (blocks .entry))) m 0) ⌝ }
+{
+    let known = is_known(book, at.point, at.element);
+    if number(known) == 0 {
+        let allowed = is_allowed(book, element_data, holders, states, blocks, m, at);
+        first_no(allowed, can_stop(book, links, at))
+    } else {
+        known
+    }
+}
+
+// Questions 7 to 15 of a quantity.
+fn decide_quantity(
+    book: Book,
+    element_data: &[u8],
+    links: &[u64],
+    holders: &[u64],
+    states: &[u64],
+    blocks: &[u8],
+    m: Message,
+    at: Place,
+) -> Answer
+    requires { ⌜ ((ps : List ℤ) (rs : List ℕ) → Readable (openingOf book (now element_data) ps) (tablesOf book (now links) (now holders) (now states) rs (now blocks))) ⌝ }
+    requires { ⌜ (m .received < 36525) × (at .day < 36525) ⌝ }
+    requires { ⌜ m .body ≡ Body.Quantity (at .point) (at .element) (at .day) (at .quantity) ⌝ }
+    ensures { λ r. ⌜ ((ps : List ℤ) (rs : List ℕ) → numberOf r ≡ decided (openingOf book (now (element_data .entry)) ps) (tablesOf book (now (links .entry)) (now (holders .entry)) (now (states .entry)) rs (now (blocks .entry))) m 0) ⌝ }
+{
+    let known = is_known(book, at.point, at.element);
+    if number(known) == 0 {
+        let allowed = is_allowed(book, element_data, holders, states, blocks, m, at);
+        first_no(allowed, can_change(book, element_data, links, at))
+    } else {
+        known
+    }
+}
+
+// Questions 7 to 16 of a reading.
+fn decide_reading(book: Book, sender: Sender, point: u64, day: u64) -> Answer
+    requires { ⌜ InRange (book .year) (book .month) ⌝ }
+    ensures { λ r. ⌜ ((ds : List ℕ) (ps : List ℤ) → numberOf r ≡ orNext (ask (ltb point (book .points)) 7 (ask (isGridCompany sender) 9 0)) (ask (question16 (openingOf book ds ps) day) 16 0)) ⌝ }
+{
+    first_no(
+        is_sent(book, point, is_grid_company(sender)),
+        in_month(book, day),
+    )
+}
+
+// Question 9 of a round.
+fn decide_round(sender: Sender) -> Answer
+    ensures { λ r. ⌜ numberOf r ≡ ask (isEnerginet sender) 9 0 ⌝ }
+{
+    if is_energinet(sender) {
+        Answer::Accepted
+    } else {
+        Answer::NotPermitted
+    }
+}
+
+// Questions 7 to 16 of a message, in order: the first that says no.
+pub fn decide(
+    book: Book,
+    element_data: &[u8],
+    prices: &[i64],
+    links: &[u64],
+    holders: &[u64],
+    states: &[u64],
+    readings: &[u32],
+    blocks: &[u8],
+    m: Message,
+) -> Answer
+    requires { ⌜ Readable (openingOf book (now element_data) (now prices)) (tablesOf book (now links) (now holders) (now states) (now readings) (now blocks)) ⌝ }
+    requires { ⌜ InRanges (book .suppliers) m ⌝ }
+    ensures { λ r. ⌜ numberOf r ≡ decided (openingOf book (now (element_data .entry)) (now (prices .entry))) (tablesOf book (now (links .entry)) (now (holders .entry)) (now (states .entry)) (now (readings .entry)) (now (blocks .entry))) m 0 ⌝ }
+{
+    let sender = m.sender;
+    let body = m.body;
+    match body {
+        Body::Link {
+            point,
+            element,
+            day,
+            quantity,
+        } => {
+            let at = place_at(point, element, day, quantity);
+            decide_link(book, element_data, links, holders, states, blocks, m, at)
+        }
+        Body::Stop {
+            point,
+            element,
+            day,
+        } => {
+            let at = place_at(point, element, day, 0);
+            decide_stop(book, element_data, links, holders, states, blocks, m, at)
+        }
+        Body::Quantity {
+            point,
+            element,
+            day,
+            quantity,
+        } => {
+            let at = place_at(point, element, day, quantity);
+            decide_quantity(book, element_data, links, holders, states, blocks, m, at)
+        }
+        Body::Holder { point, .. } => is_sent(book, point, is_energinet(sender)),
+        Body::State { point, .. } => is_sent(book, point, is_grid_company(sender)),
+        Body::Reading { point, day, .. } => decide_reading(book, sender, point, day),
+        Body::Block { point, .. } => is_sent(book, point, is_grid_company(sender)),
+        Body::Round => decide_round(sender),
     }
 }

@@ -1,10 +1,7 @@
+-- `messages::grid_company_may` meets its contract: by cases on owner and tax mark.
 use borrow.Author.Tests.{eq-eqb, ne-eqb}
-use native.Mathlib.Omega.{arith}
-use borrow.Author.Needs.{needs}
 use Rattle.messages.proofs.grid_company_may.Statement.{statement}
 use Rattle.messages.proofs.grid_company_may.Tie as tie
-use Rattle.messages.proofs.grid_company_may.Reads as reads
-use Rattle.messages.proofs.grid_company_may.Lts as lts
 
 returns : tie.Need-returns
 returns c = rw (eq-eqb _ _ (c .if1 .taken))

@@ -1,14 +1,11 @@
+-- `messages::in_time` meets its contract: too late for every sender, or each by its own days back.
 use mathlib.Core.Path.{sym}
-use Rattle.messages.proofs.Arms.{too-late}
+use Rattle.messages.proofs.Asks.{too-late}
 use borrow.Author.Tests.{le-leb, lt-leb}
 use Rattle.rules.specs.Questions.{inTime}
-use native.Mathlib.Omega.{arith}
 use borrow.Author.Needs.{needs}
 use Rattle.messages.proofs.in_time.Statement.{statement}
 use Rattle.messages.proofs.in_time.Tie as tie
-use Rattle.messages.proofs.in_time.Reads as reads
-use Rattle.messages.proofs.in_time.Lts as lts
-use Rattle.messages.proofs.not_before.Reads as not-before-reads
 
 add-if1 : tie.Need-add-if1
 add-if1 c = search needs

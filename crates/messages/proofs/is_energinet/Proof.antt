@@ -1,10 +1,8 @@
+-- `messages::is_energinet` meets its contract: by cases on the sender.
 use Rattle.rules.specs.Questions.{isEnerginet}
-use native.Mathlib.Omega.{arith}
 use borrow.Author.Needs.{needs}
 use Rattle.messages.proofs.is_energinet.Statement.{statement}
 use Rattle.messages.proofs.is_energinet.Tie as tie
-use Rattle.messages.proofs.is_energinet.Reads as reads
-use Rattle.messages.proofs.is_energinet.Lts as lts
 
 enum-told : tie.Need-enum-told
 enum-told c = search needs

@@ -1,10 +1,8 @@
+-- `messages::is_grid_company` meets its contract: by cases on the sender.
 use Rattle.rules.specs.Questions.{isGridCompany}
-use native.Mathlib.Omega.{arith}
 use borrow.Author.Needs.{needs}
 use Rattle.messages.proofs.is_grid_company.Statement.{statement}
 use Rattle.messages.proofs.is_grid_company.Tie as tie
-use Rattle.messages.proofs.is_grid_company.Reads as reads
-use Rattle.messages.proofs.is_grid_company.Lts as lts
 
 enum-told : tie.Need-enum-told
 enum-told c = search needs

@@ -1,12 +1,8 @@
+-- `messages::may_link` meets its contract: each sender by its own clause.
 use Rattle.messages.specs.Decided.{linkRight}
-use native.Mathlib.Omega.{arith}
 use borrow.Author.Needs.{needs}
 use Rattle.messages.proofs.may_link.Statement.{statement}
 use Rattle.messages.proofs.may_link.Tie as tie
-use Rattle.messages.proofs.may_link.Reads as reads
-use Rattle.messages.proofs.may_link.Lts as lts
-use Rattle.messages.proofs.grid_company_may.Reads as grid-company-may-reads
-use Rattle.messages.proofs.supplier_may.Reads as supplier-may-reads
 
 enum-told : tie.Need-enum-told
 enum-told c = search needs

@@ -1,9 +1,7 @@
-use native.Mathlib.Omega.{arith}
+-- `messages::number` meets its contract: each answer by its number.
 use borrow.Author.Needs.{needs}
 use Rattle.messages.proofs.number.Statement.{statement}
 use Rattle.messages.proofs.number.Tie as tie
-use Rattle.messages.proofs.number.Reads as reads
-use Rattle.messages.proofs.number.Lts as lts
 
 enum-told : tie.Need-enum-told
 enum-told c = search needs

@@ -1,11 +1,8 @@
+-- `messages::state_allows` meets its contract: by cases on the state.
 use borrow.Author.Tests.{eq-eqb, ne-eqb}
 use Rattle.rules.specs.Effects.{ask}
-use native.Mathlib.Omega.{arith}
-use borrow.Author.Needs.{needs}
 use Rattle.messages.proofs.state_allows.Statement.{statement}
 use Rattle.messages.proofs.state_allows.Tie as tie
-use Rattle.messages.proofs.state_allows.Reads as reads
-use Rattle.messages.proofs.state_allows.Lts as lts
 
 returns : tie.Need-returns
 unfolding ask

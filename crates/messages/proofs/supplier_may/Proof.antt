@@ -1,10 +1,7 @@
+-- `messages::supplier_may` meets its contract: by cases on owner, kind and block.
 use borrow.Author.Tests.{eq-eqb, ne-eqb}
-use native.Mathlib.Omega.{arith}
-use borrow.Author.Needs.{needs}
 use Rattle.messages.proofs.supplier_may.Statement.{statement}
 use Rattle.messages.proofs.supplier_may.Tie as tie
-use Rattle.messages.proofs.supplier_may.Reads as reads
-use Rattle.messages.proofs.supplier_may.Lts as lts
 
 returns : tie.Need-returns
 returns c = rw (eq-eqb _ _ (c .before .before .if1 .taken), eq-eqb _ _ (c .before .if2 .taken), eq-eqb _ _ (c .if3 .taken))

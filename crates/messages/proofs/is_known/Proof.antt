@@ -1,0 +1,20 @@
+-- `messages::is_known` meets its contract: by cases on the point and the element.
+use borrow.Author.Tests.{lt-ltb, le-ltb}
+use Rattle.rules.specs.Effects.{ask}
+use Rattle.messages.proofs.is_known.Statement.{statement}
+use Rattle.messages.proofs.is_known.Tie as tie
+
+returns : tie.Need-returns
+unfolding ask
+returns c = rw (lt-ltb _ _ (c .before .before .if1 .taken), lt-ltb _ _ (c .if2 .taken))
+
+returns-2 : tie.Need-returns-2
+unfolding ask
+returns-2 c = rw (lt-ltb _ _ (c .before .before .if1 .taken), le-ltb _ _ (c .if2 .left))
+
+returns-3 : tie.Need-returns-3
+unfolding ask
+returns-3 c = rw (le-ltb _ _ (c .if1 .left))
+
+pub is-known-spec : {M : Type 1} → statement M
+is-known-spec = tie.close (tie.spec returns returns-2 returns-3)

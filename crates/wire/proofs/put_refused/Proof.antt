@@ -1,0 +1,41 @@
+-- `put_refused` meets its contract: its texts stand one behind the other, and have room.
+use Rattle.wire.proofs.PlacedLaws.{joined, loosened}
+use Rattle.wire.specs.Lines.{refusedLine}
+use native.Mathlib.Omega.{arith}
+use borrow.Author.Needs.{needs}
+use Rattle.wire.proofs.put_refused.Statement.{statement}
+use Rattle.wire.proofs.put_refused.Tie as tie
+
+slice-aggregate-put-bytes : tie.Need-slice-aggregate-put-bytes
+slice-aggregate-put-bytes c = search needs
+
+put-bytes-requires : tie.Need-put-bytes-requires
+put-bytes-requires c κs = search needs
+
+put-number-then-requires : tie.Need-put-number-then-requires
+put-number-then-requires c κs = search needs
+
+put-number-then-requires-2 : tie.Need-put-number-then-requires-2
+put-number-then-requires-2 c κs = search needs
+
+same-length : tie.Need-same-length
+same-length c = search needs
+
+returns : tie.Need-returns
+unfolding refusedLine
+returns c =
+    let c2 = c .before .before in
+    let c1 = c2 .before .before .before .before in
+    let c0 = c1 .before .before .before .before in
+    loosened (omega arith) (joined (joined (c0 .put-bytes .ensures) (c1 .put-number-then .ensures) (omega arith)) (c2 .put-number-then2 .ensures) (omega arith))
+
+pub put-refused-spec : {M : Type 1} → statement M
+put-refused-spec =
+    tie.close
+    (tie.spec
+    slice-aggregate-put-bytes
+    put-bytes-requires
+    put-number-then-requires
+    put-number-then-requires-2
+    same-length
+    returns)
