@@ -11,3 +11,4 @@ pub mod DayOwed
 pub mod Moves
 pub mod Kinds
 pub mod Payment
+pub mod WholeBook
