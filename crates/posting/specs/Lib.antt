@@ -12,3 +12,4 @@ pub mod Moves
 pub mod Kinds
 pub mod Payment
 pub mod WholeBook
+pub mod RowRange
