@@ -13,3 +13,4 @@ pub mod Kinds
 pub mod Payment
 pub mod WholeBook
 pub mod RowRange
+pub mod Posted
