@@ -14,3 +14,4 @@ pub mod Payment
 pub mod WholeBook
 pub mod RowRange
 pub mod Posted
+pub mod Repaid

@@ -2,7 +2,7 @@
 // A table is a slice of 1,024 words, of which the first `used` are rows; the rows are strictly increasing.
 use rules::Book;
 ghost use mathlib.Core.Path.{_≡_};
-ghost use mathlib.Core.Bool.{_&&_};
+ghost use mathlib.Core.Bool.{_&&_, cond};
 ghost use mathlib.Core.List.{[], _∷_};
 ghost use Prim.Native.Nat.{_+_, _-_, _*_, _/_, _≤_, _<_};
 ghost use lib.Dec.{ltb, eqb};
@@ -447,6 +447,19 @@ pub fn next_start(table: &[u64], used: usize, point: u64, element: u64, day: u64
     ensures { λ r. ⌜ r ≡ nextStart (take used (now (table .entry))) point element day ⌝ }
 {
     next_record(table, used, 67108864, point * 64 + element, day)
+}
+
+// The day up to which a link runs: a fee covers its own day, another element runs up to its next period. Cost: logarithmic in the rows.
+pub fn link_end(kind: u64, table: &[u64], used: usize, point: u64, element: u64, day: u64) -> u64
+    requires { ⌜ LinkRows (now table) used ⌝ }
+    requires { ⌜ PairFits point element × DayFits day ⌝ }
+    ensures { λ r. ⌜ r ≡ cond (eqb kind 2) (day + 1) (nextStart (take used (now (table .entry))) point element day) ⌝ }
+{
+    if kind == 2 {
+        day + 1
+    } else {
+        next_start(table, used, point, element, day)
+    }
 }
 
 // Does a period of the point and element start that day.
