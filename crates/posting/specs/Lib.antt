@@ -15,3 +15,4 @@ pub mod WholeBook
 pub mod RowRange
 pub mod Posted
 pub mod Repaid
+pub mod Reread

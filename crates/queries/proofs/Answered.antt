@@ -1,10 +1,10 @@
 -- The answers of the line query and of the query for periods. A line that is right is stored in its one form, so the stored numbers are those that
 -- the rules name; for a book that was reached from an opening demand 3 says which.
 use Prim.Native.Nat.{ℕ, _+_, _-_, _*_, _≤_, _<_}
-use mathlib.Core.Path.{_≡_, refl, sym, ap, _∙_}
+use mathlib.Core.Path.{_≡_, sym, ap, _∙_}
 use mathlib.Core.Logic.{_≢_}
-use mathlib.Core.Bool.{true, _&&_}
-use mathlib.Core.List.{List, []}
+use mathlib.Core.Bool.{true}
+use mathlib.Core.List.{[]}
 use lib.ListN.{length, take}
 use borrow.Author.Tests.{ne-eqb}
 use native.Mathlib.Nat.{mul-le-mul}
@@ -14,13 +14,12 @@ use Rattle.rules.specs.declared.LineAnswer.{LineAnswer}
 use Rattle.pricing.specs.declared.Line.{Line}
 use Rattle.rules.specs.Lines.{Measure}
 use Rattle.rules.specs.Rows.{pairRows}
-use Rattle.rules.specs.World.{World, rowsOf, lineAt, lineCount, storedAt, stored, InBook}
+use Rattle.rules.specs.World.{World, rowsOf, lineAt, lineCount, storedAt, stored}
 use Rattle.rules.specs.WellFormed.{lineRight, linesRight, tablesRight, question5}
 use Rattle.rules.specs.Queries.{lineNumber, lineQuery, lineNamed, periodsNumber, periodsQuery}
 use Rattle.rules.specs.Answers.{numberOf, lineResult}
 use Rattle.rules.proofs.Tests.{both}
 use Rattle.rules.proofs.Ranges.{all-at}
-use Rattle.rules.proofs.Parts.{Limits}
 use Rattle.rules.proofs.Stored.{line-below}
 use Rattle.rules.proofs.LineQuery.{query-stored}
 use Rattle.rules.proofs.Demand3.{demand3}
@@ -29,8 +28,9 @@ use Rattle.book.proofs.Passes.{measured}
 use Rattle.queries.specs.Promises.{LineAnswered}
 use Rattle.queries.proofs.Asks.{line-passed}
 
-pub place-small : (elements s e : ℕ) → s ≤ 16 → elements ≤ 64 → (s - 1) * elements ≤ 1024
-place-small elements s e h k =
+-- every product fits
+pub place-small : (elements s : ℕ) → s ≤ 16 → elements ≤ 64 → (s - 1) * elements ≤ 1024
+place-small elements s h k =
     let n : s - 1 ≤ 16 = omega arith in
     let m : (s - 1) * elements ≤ 16 * 64 = mul-le-mul n k in
     omega arith

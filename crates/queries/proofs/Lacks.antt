@@ -1,17 +1,29 @@
 -- The search for a day without a holder: some element, place by place, and the days of the month, one by one. No day outside the month is meant.
 use Prim.Native.Nat.{ℕ, zero, suc, _+_, _≤_, _<_}
-use mathlib.Core.Path.{_≡_, refl, sym, ap, _∙_}
-use mathlib.Core.Bool.{Bool, true, false, _&&_, _||_}
+use mathlib.Core.Path.{_≡_, refl, sym, _∙_}
+use mathlib.Core.Logic.{_≢_}
+use mathlib.Core.Bool.{Bool, true, false, not}
 use mathlib.Core.List.{List}
 use lib.Dec.{eqb, leb, ltb}
-use borrow.Author.Tests.{eqb-true, le-leb, lt-leb, lt-ltb, le-ltb}
+use lib.IntN.{ℤ}
+use borrow.Author.Tests.{eqb-true, ne-eqb, le-leb, lt-ltb}
 use native.Mathlib.Omega.{arith}
 use native.Mathlib.Numerals.{add-one}
+use Rattle.calendar.specs.Gregorian.{firstDay, daysOfMonth}
+use Rattle.rules.specs.declared.Book.{Book}
 use Rattle.rules.specs.Basics.{anyTo}
-use Rattle.rules.specs.World.{Opening, Tables, World, monthFirst, monthDays, holderOn, stateOn, countingState, linkedOn}
+use Rattle.rules.specs.Rows.{quantityOn}
+use Rattle.rules.specs.World.{Opening, Tables, openingOf, tablesOf, worldOf, monthFirst, monthDays, holderOn, stateOn, countingState, linkedOn}
 use Rattle.rules.specs.Questions.{question16}
-use Rattle.rules.specs.Queries.{dayNumber, lacksHolder, DayNamed, NoDayNamed}
-use Rattle.rules.proofs.Tests.{tests, cases, is-T}
+use Rattle.rules.specs.Queries.{dayNumber, lacksHolder}
+use Rattle.rules.proofs.Tests.{tests, cases}
+use Rattle.messages.proofs.Whole.{whole-readable}
+use Rattle.queries.specs.Days.{PointAsked}
+use Rattle.queries.proofs.Asks.{day-passed}
+
+-- is an element linked to the point that day, by the rows
+abbrev pub linkedBy : List ℕ → (point day element : ℕ) → Bool
+linkedBy rows p d e = not (eqb (quantityOn rows p e d) 0)
 
 -- ---- some number below n
 
@@ -40,11 +52,19 @@ module _ (o : Opening) (t : Tables) (p : ℕ) where
   unfolding question16
   in-month d h k = rw (le-leb _ _ h, lt-ltb _ _ k)
 
-  -- on a day of the month: by the holder, the state and the links
-  pub lacks-is : (d : ℕ) → monthFirst o ≤ d → d < monthFirst o + monthDays o
-      → (eqb (holderOn t p d) 0 && (countingState (stateOn t p d) && anyTo (λ e. linkedOn t p e d) (o .elements))) ≡ lacksHolder o t p d
-  unfolding lacksHolder
-  lacks-is d h k = rw (in-month d h k)
+  -- a day of the month: by the holder, the state and the links
+  module _ (d : ℕ) (h : monthFirst o ≤ d) (k : d < monthFirst o + monthDays o) where
+    pub by-links : holderOn t p d ≡ 0 → countingState (stateOn t p d) ≡ true → anyTo (λ e. linkedOn t p e d) (o .elements) ≡ lacksHolder o t p d
+    unfolding lacksHolder
+    by-links a b = rw (in-month d h k, a, b)
+
+    pub by-state : holderOn t p d ≡ 0 → countingState (stateOn t p d) ≡ false → false ≡ lacksHolder o t p d
+    unfolding lacksHolder
+    by-state a b = rw (in-month d h k, a, b)
+
+    pub by-holder : holderOn t p d ≢ 0 → false ≡ lacksHolder o t p d
+    unfolding lacksHolder
+    by-holder a = rw (in-month d h k, ne-eqb _ _ a)
 
   outside : (d : ℕ) → question16 o d ≡ false → lacksHolder o t p d ≡ false
   unfolding lacksHolder
@@ -57,3 +77,51 @@ module _ (o : Opening) (t : Tables) (p : ℕ) where
       (λ b. h d (omega (arith, tests)) (omega (arith, tests)))
       (λ b. outside d (unfold question16 in rw (a, b))))
       (λ a. outside d (unfold question16 in rw a))
+
+-- ---- the days, one by one
+
+-- no day of the month before this one is one
+pub record Searched (b : Book) (ls hs ss : List ℕ) (p end day : ℕ) : Type 0 where
+  pub from : firstDay (b .year) (b .month) ≤ day
+  pub upto : day ≤ end
+  pub last : end ≡ firstDay (b .year) (b .month) + daysOfMonth (b .year) (b .month)
+  pub none : (d : ℕ) → firstDay (b .year) (b .month) ≤ d → d < day → (ds : List ℕ) (ps : List ℤ) (rs bs : List ℕ)
+      → lacksHolder (openingOf b ds ps) (tablesOf b ls hs ss rs bs) p d ≡ false
+
+module _ (b : Book) (ls hs ss : List ℕ) (p end day : ℕ) where
+  pub searched-more : Searched b ls hs ss p end day → day < end
+      → ((ds : List ℕ) (ps : List ℤ) (rs bs : List ℕ) → lacksHolder (openingOf b ds ps) (tablesOf b ls hs ss rs bs) p day ≡ false)
+      → Searched b ls hs ss p end (day + 1)
+  searched-more s l h =
+      let f = s .from in
+      record {
+        from = omega arith;
+        upto = omega arith;
+        last = s .last;
+        none = λ d i j ds ps rs bs. cases (eqb d day)
+            (λ e. rw (eqb-true d day e) (h ds ps rs bs))
+            (λ e. s .none d i (omega (arith, tests)) ds ps rs bs);
+      }
+
+  pub searched-all : Searched b ls hs ss p end day → end ≤ day → (ds : List ℕ) (ps : List ℤ) (rs bs : List ℕ)
+      → (d : ℕ) → lacksHolder (openingOf b ds ps) (tablesOf b ls hs ss rs bs) p d ≡ false
+  unfolding monthFirst monthDays
+  searched-all s l ds ps rs bs = none-lacks (openingOf b ds ps) (tablesOf b ls hs ss rs bs) p
+      (λ d i j. let e = s .last in let u = s .upto in s .none d i (omega arith) ds ps rs bs)
+
+-- what the search needs, where no question says no
+pub point-asked : (b : Book) (ds : List ℕ) (ps : List ℤ) (ls hs ss rs bs : List ℕ) (ns ts : List ℤ) (p : ℕ)
+    → dayNumber (worldOf b ds ps ls hs ss rs bs ns ts) p ≡ 0 → PointAsked b ls hs ss p
+point-asked b ds ps ls hs ss rs bs ns ts p h =
+    let w = worldOf b ds ps ls hs ss rs bs ns ts in
+    let k = day-passed w p h in
+    let r = whole-readable w (k .0) in
+    record {
+      month = r .month;
+      points = r .points;
+      elements = r .elements;
+      point = k .1;
+      links = r .links .rows;
+      holders = r .holders;
+      states = r .states;
+    }

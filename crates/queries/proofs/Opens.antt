@@ -1,10 +1,9 @@
 -- An opening: where questions 2 to 4 pass, tables of their exact lengths that were set to 0 make the opened world; else nothing changes.
 use Prim.Native.Nat.{ℕ}
-use mathlib.Core.Path.{_≡_, refl, sym, ap, _∙_}
+use mathlib.Core.Path.{_≡_, sym, _∙_}
 use mathlib.Core.Logic.{_≢_}
-use mathlib.Core.Bool.{_&&_}
-use mathlib.Core.List.{List}
-use lib.Dec.{eqb}
+use mathlib.Core.List.{List, []}
+use mathlib.Core.Option.{some}
 use lib.IntN.{ℤ, pos}
 use lib.ListN.{length, replicate}
 use borrow.Author.Tests.{ne-eqb}
@@ -13,10 +12,11 @@ use Rattle.rules.specs.declared.Answer.{Answer}
 use Rattle.rules.specs.declared.Book.{Book}
 use Rattle.rules.specs.declared.Opened.{Opened}
 use Rattle.rules.specs.Basics.{when}
-use Rattle.rules.specs.World.{World, worldOf, tableOf, lineCount}
+use Rattle.rules.specs.World.{World, bookOf, worldOf, tableOf, lineCount}
 use Rattle.rules.specs.WellFormed.{openingSized, tablesSized, readingCount, linePlaces, question2, question3}
 use Rattle.rules.specs.Opening.{openingAnswer, opened, afterOpening}
 use Rattle.rules.specs.Answers.{numberOf}
+use Rattle.rules.specs.Claim.{advanceAll, begin, reached}
 use Rattle.rules.proofs.Tests.{both}
 use Rattle.rules.proofs.Parts.{readings-sized}
 use Rattle.rules.proofs.Passed.{asked-passed}
@@ -36,10 +36,10 @@ zeros : {A : Type 0} (v : A) (x d : List A) (n : ℕ) → x ≡ replicate (lengt
 zeros v x d n h e = h ∙ rw e
 
 module _ (year month points suppliers elements : ℕ) (ds : List ℕ) (ps : List ℤ) (ls hs ss rs bs : List ℕ) (ns ts : List ℤ) where
-  abbrev fresh : Book
+  abbrev pub fresh : Book
   fresh = freshBook year month points suppliers elements
 
-  abbrev lent : World
+  abbrev pub lent : World
   lent = worldOf fresh ds ps ls hs ss rs bs ns ts
 
   pub opens : openingAnswer lent ≡ 0 → (ls′ hs′ ss′ rs′ bs′ : List ℕ) (ns′ ts′ : List ℤ)
@@ -70,3 +70,17 @@ module _ (year month points suppliers elements : ℕ) (ds : List ℕ) (ps : List
 pub stays-shut : (w : World) → openingAnswer w ≢ 0 → (a : Answer) → numberOf a ≡ openingAnswer w → OpenedAs w w (Opened.Refused a)
 unfolding afterOpening when
 stays-shut w h a e = record { number = e; book = rw (ne-eqb _ _ h); world = rw (ne-eqb _ _ h) }
+
+-- ---- for callers: what an opening that gave a book has done
+
+pub record Began (w after : World) (b : Book) : Type 0 where
+  pub passed : openingAnswer w ≡ 0
+  pub book : b ≡ bookOf w
+  pub world : after ≡ reached w [] .world
+
+pub began : (w after : World) (b : Book) → OpenedAs w after (Opened.Book b) → Began w after b
+unfolding afterOpening when begin advanceAll
+began w after b o =
+    let h = sym (o .number) in
+    let k : some b ≡ some (bookOf w) = rw h at (o .book) in
+    record { passed = h; book = cc; world = rw h at (o .world) }

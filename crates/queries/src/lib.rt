@@ -1,12 +1,11 @@
 // The entry points that open a book and that answer questions about one. Every input is arbitrary: each entry point asks the
 // questions of the book first.
 ghost use mathlib.Core.Path.{_≡_};
-ghost use mathlib.Core.Bool.{true, not};
 ghost use mathlib.Core.List.{List};
 ghost use Prim.Native.Nat.{ℕ, _+_, _-_, _*_, _≤_, _<_};
-ghost use lib.Dec.{ltb, eqb};
+ghost use lib.Dec.{ltb};
 ghost use lib.IntN.{ℤ, pos};
-ghost use lib.ListN.{length, take, replicate};
+ghost use lib.ListN.{length, replicate};
 ghost use Rattle.rules.specs.Basics.{within, anyTo};
 ghost use Rattle.rules.specs.World.{openingOf, tablesOf, worldOf, countingState, linkedOn};
 ghost use Rattle.rules.specs.Effects.{ask};

@@ -1,10 +1,9 @@
 -- Whether the rows fit after each message: the tables that it leaves alone fit as before, the other by its number of rows.
-use Prim.Native.Nat.{ℕ, suc, _+_, _≤_, _<_}
-use mathlib.Core.Path.{_≡_, refl, sym, ap, subst, _∙_}
-use mathlib.Core.Bool.{Bool, true, false, _&&_, cond, and-true}
+use Prim.Native.Nat.{ℕ, suc, _+_, _≤_}
+use mathlib.Core.Path.{_≡_, refl, sym, subst, _∙_}
+use mathlib.Core.Bool.{Bool, true, false, cond, and-true}
 use mathlib.Core.List.{List}
 use lib.Dec.{leb}
-use lib.IntN.{ℤ}
 use lib.ListN.{length, take}
 use lib.Seq.{length-take-le}
 use native.Mathlib.Numerals.{add-one}
@@ -14,10 +13,9 @@ use Rattle.rules.specs.declared.Book.{Book}
 use Rattle.rules.specs.declared.Body.{Body}
 use Rattle.rules.specs.declared.Body.the-variants.{Link, Stop, Quantity, Holder, State, Reading, Block, Round}
 use Rattle.rules.specs.Rows.{packPeriod, startsOn, insertRow, stopRows, splitRows, packValue, recordedOn, recordRow}
-use Rattle.rules.specs.World.{Opening, Tables, openingOf, tablesOf, rowsOf, tableOf}
+use Rattle.rules.specs.World.{Opening, tablesOf, rowsOf, tableOf}
 use Rattle.rules.specs.WellFormed.{rowsFit}
 use Rattle.rules.specs.Effects.{withLinks, withHolders, withStates, withReadings, withBlocks, linkEnd, told}
-use Rattle.rules.proofs.Tests.{tests}
 use Rattle.tables.specs.Order.{LinkRows, ValueRows, PairFits, DayFits, PointFits}
 use Rattle.tables.specs.Search.{given}
 use Rattle.tables.proofs.Callers.{length-insert, length-stop, length-split, length-record}

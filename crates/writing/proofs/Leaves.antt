@@ -5,7 +5,7 @@ use mathlib.Core.Bool.{cond}
 use mathlib.Core.List.{List}
 use lib.Dec.{eqb}
 use lib.IntN.{ℤ}
-use lib.ListN.{length, take, set}
+use lib.ListN.{take, set}
 use lib.Seq.{length-take-le}
 use native.Mathlib.Nat.{mul-le-mul-right}
 use native.Mathlib.Omega.{arith}
@@ -15,7 +15,7 @@ use Rattle.rules.specs.declared.Book.{Book}
 use Rattle.rules.specs.declared.Body.{Body}
 use Rattle.rules.specs.declared.Body.the-variants.{Link, Stop, Quantity, Holder, State, Reading, Block, Round}
 use Rattle.rules.specs.Rows.{packPeriod, nextStart, insertRow, stopRows, splitRows, packValue, recordRow}
-use Rattle.rules.specs.World.{Opening, Table, Tables, openingOf, tablesOf, worldOf, World, rowsOf, tableOf, kindOf, monthFirst, monthDays, readingAt}
+use Rattle.rules.specs.World.{Opening, Table, Tables, openingOf, tablesOf, worldOf, rowsOf, tableOf, kindOf, monthFirst, monthDays, readingAt}
 use Rattle.rules.specs.Effects.{withLinks, withHolders as tablesWithHolders, withStates as tablesWithStates, withReadings, withBlocks, linkEnd, told}
 use Rattle.rules.proofs.Tests.{cases}
 use Rattle.rules.proofs.Reach.{next-after}
@@ -25,8 +25,8 @@ use Rattle.tables.proofs.Callers.{changed-table, inserted}
 use Rattle.writing.specs.Recorded.{withPeriods, withHolders, withStates, ReadingFits, Written}
 
 -- the end of a new period fits its field
-pub end-fits : (kind p e d : ℕ) (ws : List ℕ) → d < 36525 → cond (eqb kind 2) (d + 1) (nextStart ws p e d) < 65536
-end-fits kind p e d ws h = let n = next-after p e d ws h in cases (eqb kind 2) (λ t. rw t (omega arith)) (λ t. rw t (omega arith))
+pub end-fits : (kind p e d end : ℕ) (ws : List ℕ) → d < 36525 → end ≡ cond (eqb kind 2) (d + 1) (nextStart ws p e d) → end < 65536
+end-fits kind p e d end ws h k = let n = next-after p e d ws h in rw k (cases (eqb kind 2) (λ t. rw t (omega arith)) (λ t. rw t (omega arith)))
 
 -- so does the place of a reading
 pub reading-product : (b : Book) (rs : List ℕ) (p d h n days : ℕ) → ReadingFits b rs p d h n → days ≡ daysOfMonth (b .year) (b .month) → p * days ≤ 7905

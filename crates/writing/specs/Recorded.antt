@@ -9,7 +9,7 @@ use Rattle.calendar.specs.Gregorian.{InRange, firstDay, daysOfMonth}
 use Rattle.rules.specs.declared.Book.{Book}
 use Rattle.rules.specs.declared.Body.{Body}
 use Rattle.rules.specs.declared.Body.the-variants.{Link, Stop, Quantity, Holder, State, Reading, Block, Round}
-use Rattle.rules.specs.World.{Opening, Table, Tables, openingOf}
+use Rattle.rules.specs.World.{Opening, Tables, openingOf}
 use Rattle.rules.specs.Effects.{told}
 use Rattle.rules.proofs.Runs.{linkedIn}
 use Rattle.rules.proofs.Passed.{Ready}

@@ -124,11 +124,7 @@ fn write_link(
     let used = book.periods as usize;
     let kind = kind_of(element_data, element as usize);
     let end = link_end(kind, links, used, point, element, day);
-    insert(
-        links,
-        used,
-        pack_period(point, element, day, end, quantity),
-    );
+    insert(links, used, pack_period(point, element, day, end, quantity));
     with_periods(book, used + 1)
 }
 
@@ -162,10 +158,7 @@ fn write_quantity(
     ensures { λ r. ⌜ ((ds : List ℕ) (ps : List ℤ) (hs ss rs bs : List ℕ) → Written book (openingOf book ds ps) (tablesOf book (now (links .entry)) hs ss rs bs) (Quantity point element day quantity) r (tablesOf r (now (links .exit)) hs ss rs bs)) ⌝ }
 {
     let used = book.periods as usize;
-    with_periods(
-        book,
-        split(links, used, point, element, day, quantity),
-    )
+    with_periods(book, split(links, used, point, element, day, quantity))
 }
 
 // Message 4. Cost: as for a link.
@@ -195,14 +188,7 @@ fn write_state(book: Book, states: &mut [u64], point: u64, day: u64, state: u64)
 }
 
 // Message 6: the old reading of the hour is replaced. Constant time.
-fn write_reading(
-    book: Book,
-    readings: &mut [u32],
-    point: u64,
-    day: u64,
-    hour: u64,
-    energy: u64,
-)
+fn write_reading(book: Book, readings: &mut [u32], point: u64, day: u64, hour: u64, energy: u64)
     requires { ⌜ ReadingFits book (now readings) point day hour energy ⌝ }
     ensures { λ _. ⌜ ((ds : List ℕ) (ps : List ℤ) (ls hs ss bs : List ℕ) → tablesOf book ls hs ss (now (readings .exit)) bs ≡ told (openingOf book ds ps) (tablesOf book ls hs ss (now (readings .entry)) bs) (Reading point day hour energy)) ⌝ }
 {

@@ -1,7 +1,6 @@
 -- `queries::ask_element` meets its contract: by cases on the element.
 use borrow.Author.Tests.{lt-ltb, le-ltb}
 use Rattle.rules.specs.Effects.{ask}
-use borrow.Author.Needs.{needs}
 use Rattle.queries.proofs.ask_element.Statement.{statement}
 use Rattle.queries.proofs.ask_element.Tie as tie
 

@@ -1,7 +1,6 @@
 -- `queries::ask_point` meets its contract: by cases on the point.
 use borrow.Author.Tests.{lt-ltb, le-ltb}
 use Rattle.rules.specs.Effects.{ask}
-use borrow.Author.Needs.{needs}
 use Rattle.queries.proofs.ask_point.Statement.{statement}
 use Rattle.queries.proofs.ask_point.Tie as tie
 

@@ -1,18 +1,19 @@
+-- `queries::find_day` meets its contract: no day of the month passed so far is one, and the first that is answers.
+use Prim.Native.Nat.{_-_}
+use mathlib.Core.Path.{sym, _∙_}
+use Rattle.calendar.specs.MonthLaws.{month-within}
+use Rattle.rules.proofs.Tests.{is-T}
+use Rattle.queries.proofs.Lacks.{Searched, searched-more, searched-all}
 use native.Mathlib.Omega.{arith}
 use borrow.Author.Needs.{needs}
 use Rattle.queries.proofs.find_day.Statement.{statement}
 use Rattle.queries.proofs.find_day.Tie as tie
-use Rattle.queries.proofs.find_day.Reads as reads
-use Rattle.queries.proofs.find_day.Lts as lts
-use Rattle.calendar.proofs.days_in_month.Reads as days-in-month-reads
-use Rattle.calendar.proofs.first_day.Reads as first-day-reads
-use Rattle.queries.proofs.lacks_holder.Reads as lacks-holder-reads
 
 abbrev Inv-loop : tie.InvT-loop
-Inv-loop book links holders states point end day₀ day = ?
+Inv-loop book links holders states point end day₀ day = Searched book links holders states point end day
 
 abbrev μ-loop : tie.MeasureT-loop
-μ-loop book links holders states point end day₀ day = ?
+μ-loop book links holders states point end day₀ day = end - day
 
 first-day-requires : tie.Need-first-day-requires Inv-loop μ-loop
 first-day-requires c κs = search needs
@@ -21,31 +22,60 @@ days-in-month-requires : tie.Need-days-in-month-requires Inv-loop μ-loop
 days-in-month-requires c κs = search needs
 
 add-end : tie.Need-add-end Inv-loop μ-loop
-add-end c = search needs
+add-end c = let s = c .before .before .before .before .before in let a = s .args in let m = month-within (a .book .year) (a .book .month)
+    (s .pre .month) in omega arith
 
 first-day-requires-2 : tie.Need-first-day-requires-2 Inv-loop μ-loop
 first-day-requires-2 c κs = search needs
 
 loop-holds : tie.Need-loop-holds Inv-loop μ-loop
-loop-holds c = search needs
+loop-holds c =
+    record {
+      from = omega arith;
+      upto = omega arith;
+      last = omega arith;
+      none = λ d i j. absurd (omega arith);
+    }
 
 lacks-holder-requires : tie.Need-lacks-holder-requires Inv-loop μ-loop
-lacks-holder-requires c κs = search needs
+lacks-holder-requires c κs =
+    let s = c .before .before .before .before .before .before .before .before in
+    let a = s .args in
+    let m = month-within (a .book .year) (a .book .month) (s .pre .month) in
+    let v = c .before .loop .inv in
+    let e = v .last in
+    (s .pre, record { from = v .from; upto = omega arith; within = omega arith })
 
 returns : tie.Need-returns Inv-loop μ-loop
-returns c = search needs
+returns c ds ps rs bs ls ts h = record { number = h; lacks = is-T _ (sym (c .before .lacks-holder .ensures ds ps rs bs) ∙ c .if1 .taken) }
 
 add-day : tie.Need-add-day Inv-loop μ-loop
-add-day c = search needs
+add-day c =
+    let s = c .before .before .before .before .before .before .before .before .before .before in
+    let a = s .args in
+    let m = month-within (a .book .year) (a .book .month) (s .pre .month) in
+    let e = c .before .before .before .loop .inv .last in
+    omega arith
 
 loop-less : tie.Need-loop-less Inv-loop μ-loop
 loop-less c = search needs
 
 loop-again : tie.Need-loop-again Inv-loop μ-loop
-loop-again c = search needs
+loop-again c =
+    let a = c .before .before .before .before .before .before .before .before .before .before .args in
+    let l = c .before .before .before .loop in
+    searched-more (a .book) (a .links .now) (a .holders .now) (a .states .now) (a .point) _ (l .day) (l .inv) (omega arith)
+    (λ ds ps rs bs. sym (c .before .lacks-holder .ensures ds ps rs bs) ∙ c .if1 .left)
 
 returns-2 : tie.Need-returns-2 Inv-loop μ-loop
-returns-2 c = search needs
+returns-2 c ds ps rs bs ls ts h =
+    let a = c .before .before .before .before .before .before .before .before .args in
+    let l = c .before .loop in
+    record {
+      number = h;
+      none = searched-all (a .book) (a .links .now) (a .holders .now) (a .states .now) (a .point) _ (l .day) (l .inv)
+          (omega arith) ds ps rs bs;
+    }
 
 pub find-day-spec : {M : Type 1} → statement M
 find-day-spec =

@@ -1,7 +1,6 @@
 -- `queries::is_counting` meets its contract: by cases on the state.
 use borrow.Author.Tests.{ne-eqb}
 use Rattle.rules.specs.World.{countingState}
-use borrow.Author.Needs.{needs}
 use Rattle.queries.proofs.is_counting.Statement.{statement}
 use Rattle.queries.proofs.is_counting.Tie as tie
 

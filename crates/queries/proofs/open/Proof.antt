@@ -1,16 +1,9 @@
-use native.Mathlib.Omega.{arith}
+-- `queries::open` meets its contract: tables of their exact lengths, set to 0, are the opened world's; a refusal leaves them.
+use mathlib.Core.Path.{sym, _∙_}
+use Rattle.queries.proofs.Opens.{lent, opens, stays-shut}
 use borrow.Author.Needs.{needs}
 use Rattle.queries.proofs.open.Statement.{statement}
 use Rattle.queries.proofs.open.Tie as tie
-use Rattle.queries.proofs.open.Reads as reads
-use Rattle.queries.proofs.open.Lts as lts
-use Rattle.book.proofs.check_opening.Reads as check-opening-reads
-use Rattle.messages.proofs.number.Reads as number-reads
-use Rattle.queries.proofs.clear_blocks.Reads as clear-blocks-reads
-use Rattle.queries.proofs.clear_lines.Reads as clear-lines-reads
-use Rattle.queries.proofs.clear_readings.Reads as clear-readings-reads
-use Rattle.queries.proofs.clear_words.Reads as clear-words-reads
-use Rattle.queries.proofs.fresh_book.Reads as fresh-book-reads
 
 check-opening-requires : tie.Need-check-opening-requires
 check-opening-requires c κs = search needs
@@ -64,7 +57,20 @@ same-length-7 : tie.Need-same-length-7
 same-length-7 c = search needs
 
 returns : tie.Need-returns
-returns c = ?
+returns c = let a = c .before .before .before .before .before .before .before .before .before .before .before .before .before .before .before .before .before .before .before .before .before .before .before .before .before .before .before .before .before .before .before .before .before .before .before .before .before .before .before .before .before .before .before .args in
+    opens (a .year) (a .month) (a .points) (a .suppliers) (a .elements) (a .element-data .now) (a .prices .now)
+    (a .links .now) (a .holders .now) (a .states .now) (a .readings .now) (a .blocks .now) (a .lines .now) (a .sent .now)
+    (sym (c .before .before .before .before .before .before .before .before .before .before .before .before .before .before .before .before .before .before .before .before .before .before .before .before .before .before .before .before .before .check-opening .ensures) ∙ sym (c .before .before .before .before .before .before .before .before .before .before .before .before .before .before .before .before .before .before .before .before .before .before .before .before .before .before .before .before .number .ensures) ∙ c .before .before .before .before .before .before .before .before .before .before .before .before .before .before .before .before .before .before .before .before .before .before .before .before .before .before .before .if1 .taken)
+    _ _ _ _ _ _ _
+    (c .before .before .before .before .before .before .before .before .before .before .before .before .before .before .before .before .before .before .before .before .before .before .before .before .before .clear-words .ensures)
+    (c .before .before .before .before .before .before .before .before .before .before .before .before .before .before .before .before .before .before .before .before .before .clear-words2 .ensures)
+    (c .before .before .before .before .before .before .before .before .before .before .before .before .before .before .before .before .before .clear-words3 .ensures)
+    (c .before .before .before .before .before .before .before .before .before .before .before .before .before .clear-readings .ensures)
+    (c .before .before .before .before .before .before .before .before .before .clear-blocks .ensures)
+    (c .before .before .before .before .before .clear-lines .ensures)
+    (c .before .before .clear-lines2 .ensures)
+    _
+    (c .fresh-book .ensures)
 
 same-length-8 : tie.Need-same-length-8
 same-length-8 c = search needs
@@ -88,7 +94,12 @@ same-length-14 : tie.Need-same-length-14
 same-length-14 c = search needs
 
 returns-2 : tie.Need-returns-2
-returns-2 c = ?
+returns-2 c = let a = c .before .before .before .before .before .before .before .before .before .before .before .before .before .before .before .before .args in
+    stays-shut (lent (a .year) (a .month) (a .points) (a .suppliers) (a .elements) (a .element-data .now) (a .prices .now)
+    (a .links .now) (a .holders .now) (a .states .now) (a .readings .now) (a .blocks .now) (a .lines .now) (a .sent .now))
+    (λ h. c .if1 .left (c .before .number .ensures ∙ c .before .before .check-opening .ensures ∙ h))
+    _
+    (c .before .before .check-opening .ensures)
 
 pub open-spec : {M : Type 1} → statement M
 open-spec =

@@ -1,5 +1,5 @@
 -- `writing::has_room` meets its contract: a row that replaces one takes no place, another takes the next.
-use mathlib.Core.Path.{_≡_, sym}
+use mathlib.Core.Path.{_≡_}
 use mathlib.Core.Bool.{true, false}
 use Prim.Native.Nat.{_+_}
 use lib.Dec.{leb, ltb}

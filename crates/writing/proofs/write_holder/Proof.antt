@@ -20,7 +20,7 @@ same-length c = search needs
 
 returns : tie.Need-returns
 returns c ds ps ls ss rs bs = let a = c .before .before .before .before .before .before .before .args in
-    holder-left (a .book) (openingOf (a .book) ds ps) ls (a .holders .now) ss rs bs (a .point) (a .day) (a .holder) _ _ _ _ (c .before .before .before .before .pack-value .ensures) (c .before .before .record-value .ensures) (c .with-holders .ensures)
+    holder-left (a .book) (openingOf (a .book) ds ps) ls (a .holders .now) ss rs bs (a .point) (a .day) (a .holder) _ _ _ _ (c .before .before .before .before .before .pack-value .ensures) (c .before .before .before .record-value .ensures) (c .with-holders .ensures)
 
 pub write-holder-spec : {M : Type 1} → statement M
 write-holder-spec =

@@ -16,7 +16,7 @@ same-length c = search needs
 
 returns : tie.Need-returns
 returns c ds ps hs ss rs bs = let a = c .before .before .before .before .before .before .args in
-    quantity-left (a .book) (openingOf (a .book) ds ps) (a .links .now) hs ss rs bs (a .point) (a .element) (a .day) (a .quantity) _ _ _ (c .before .before .split .ensures) (c .with-periods .ensures)
+    quantity-left (a .book) (openingOf (a .book) ds ps) (a .links .now) hs ss rs bs (a .point) (a .element) (a .day) (a .quantity) _ _ _ (c .before .before .before .split .ensures) (c .with-periods .ensures)
 
 pub write-quantity-spec : {M : Type 1} → statement M
 write-quantity-spec = tie.close (tie.spec split-requires with-periods-requires same-length returns)

@@ -20,7 +20,7 @@ same-length c = search needs
 
 returns : tie.Need-returns
 returns c ds ps ls hs rs bs = let a = c .before .before .before .before .before .before .before .args in
-    state-left (a .book) (openingOf (a .book) ds ps) ls hs (a .states .now) rs bs (a .point) (a .day) (a .state) _ _ _ _ (c .before .before .before .before .pack-value .ensures) (c .before .before .record-value .ensures) (c .with-states .ensures)
+    state-left (a .book) (openingOf (a .book) ds ps) ls hs (a .states .now) rs bs (a .point) (a .day) (a .state) _ _ _ _ (c .before .before .before .before .before .pack-value .ensures) (c .before .before .before .record-value .ensures) (c .with-states .ensures)
 
 pub write-state-spec : {M : Type 1} → statement M
 write-state-spec =

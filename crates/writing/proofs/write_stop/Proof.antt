@@ -16,7 +16,7 @@ same-length c = search needs
 
 returns : tie.Need-returns
 returns c ds ps hs ss rs bs = let a = c .before .before .before .before .before .before .args in
-    stop-left (a .book) (openingOf (a .book) ds ps) (a .links .now) hs ss rs bs (a .point) (a .element) (a .day) _ _ _ (c .before .before .stop .ensures) (c .with-periods .ensures)
+    stop-left (a .book) (openingOf (a .book) ds ps) (a .links .now) hs ss rs bs (a .point) (a .element) (a .day) _ _ _ (c .before .before .before .stop .ensures) (c .with-periods .ensures)
 
 pub write-stop-spec : {M : Type 1} → statement M
 write-stop-spec = tie.close (tie.spec stop-requires with-periods-requires same-length returns)
