@@ -1,2 +1,3 @@
 -- What the functions of this crate are stated by.
 pub mod Moved
+pub mod RecordNumbers

@@ -1,14 +1,17 @@
 // What a round sends: which lines have moved from what was sent, the record of one, and what is sent and next afterwards.
 ghost use mathlib.Core.Path.{_≡_};
 ghost use mathlib.Core.Bool.{_&&_};
-ghost use Prim.Native.Nat.{_+_, _*_, _≤_, _<_, min};
+ghost use Prim.Native.Nat.{ℕ, _+_, _*_, _≤_, _<_, min};
 ghost use lib.IntN.{natAbs};
-ghost use lib.ListN.{length};
+ghost use lib.ListN.{length, getD};
+ghost use lib.Seq.{sets};
 ghost use lib.Dec.{leb, eqb};
+ghost use Rattle.rules.specs.Basics.{listTo};
 ghost use Rattle.rules.specs.Lines.{Measure};
 ghost use Rattle.rules.specs.World.{World};
 ghost use Rattle.rules.specs.Effects.{supplierOf, elementOf, recordOf};
 ghost use Rattle.pricing.specs.Bounds.{LineOf};
+ghost use Rattle.rounds.specs.RecordNumbers.{SmallRecord, sixOf, numbersAfter};
 ghost use Rattle.rounds.specs.Moved.{movedBy, unmovedAt, linesIn, IsWorld, Comparable, Settled, Appended, Listed};
 use pricing::Line;
 use pricing::is_size_within;
@@ -50,8 +53,8 @@ pub fn is_unmoved(lines: &[i64], sent: &[i64], at: usize) -> bool
 
 // The record of line number `k`.
 pub fn record_of(book: Book, lines: &[i64], sent: &[i64], k: usize) -> Record
-    requires { ⌜ Settled book (now lines) (now sent) × (k < linesIn book) ⌝ }
-    ensures { λ r. ⌜ ((w : World) → IsWorld w book (now (lines .entry)) (now (sent .entry)) → r ≡ recordOf w (supplierOf (w .opening) k) (elementOf (w .opening) k)) ⌝ }
+    requires { ⌜ Settled book (now lines) (now sent) × (k < linesIn book) × (book .round ≤ 3) ⌝ }
+    ensures { λ r. ⌜ SmallRecord r × ((w : World) → IsWorld w book (now (lines .entry)) (now (sent .entry)) → r ≡ recordOf w (supplierOf (w .opening) k) (elementOf (w .opening) k)) ⌝ }
 {
     let moved = moved_by(lines, sent, k * 3);
     let number = k as u64;
@@ -110,4 +113,38 @@ pub fn next_round(round: u64) -> u64
     ensures { λ r. ⌜ r ≡ min 3 (round + 1) ⌝ }
 {
     if round < 3 { round + 1 } else { 3 }
+}
+
+// ---- the records as numbers
+
+// One record's six numbers, from place `at` on.
+fn put_record(out: &mut [i64], at: usize, r: Record)
+    requires { ⌜ SmallRecord r × (at + 5 < length (now out)) ⌝ }
+    ensures { λ _. ⌜ now (out .exit) ≡ sets (now (out .entry)) at (sixOf r) ⌝ }
+{
+    let kind = r.kind as i64;
+    let supplier = r.supplier as i64;
+    let element = r.element as i64;
+    let quantity = r.quantity;
+    let kroner = r.kroner;
+    let billionths = r.billionths as i64;
+    out[at] = kind;
+    out[at + 1] = supplier;
+    out[at + 2] = element;
+    out[at + 3] = quantity;
+    out[at + 4] = kroner;
+    out[at + 5] = billionths;
+}
+
+// The records of `count` lines whose numbers are listed, at the front of `out`. Linear in them.
+pub fn put_records(book: Book, lines: &[i64], sent: &[i64], moved: &[u64], count: usize, out: &mut [i64])
+    requires { ⌜ Settled book (now lines) (now sent) × (book .round ≤ 3) ⌝ }
+    requires { ⌜ (count ≤ length (now moved)) × (count * 6 ≤ length (now out)) × ((i : ℕ) → i < count → getD (now moved) i 0 < linesIn book) ⌝ }
+    ensures { λ _. ⌜ ((w : World) → IsWorld w book (now (lines .entry)) (now (sent .entry)) → now (out .exit) ≡ numbersAfter (listTo (λ i. recordOf w (supplierOf (w .opening) (getD (now (moved .entry)) i 0)) (elementOf (w .opening) (getD (now (moved .entry)) i 0))) count) (now (out .entry))) ⌝ }
+{
+    let mut i = 0;
+    while i < count {
+        put_record(out, i * 6, record_of(book, lines, sent, moved[i] as usize));
+        i += 1;
+    }
 }

@@ -1,7 +1,7 @@
 -- `rounds::record_of` meets its contract: supplier and element are read off the line's number, and the rest is how far the line has moved.
 -- Assumes nothing.
 use Prim.Native.Nat.{_<_}
-use native.Mathlib.Nat.{div-le-self}
+use native.Mathlib.Nat.{div-le-self, mod-lt}
 use Rattle.integers.specs.Integers.{abs-back}
 use Rattle.rounds.proofs.Numbers.{comparable, some-elements, few-lines}
 use Rattle.rounds.proofs.Sending.{record-is}
@@ -33,12 +33,26 @@ rem-t10 : tie.Need-rem-t10
 rem-t10 c = has-elements (c .before .before .before)
 
 returns : tie.Need-returns
-returns c w h =
+returns c =
     let m = c .before .before .before in
     let s = m .before in
+    let b = s .args .book in
+    let p = s .pre in
     let g = m .moved-by .ensures in
-    rw (abs-back (m .moved-by .result .quantity) (omega (arith, g .quantity-small)), abs-back (m .moved-by .result .kroner) (omega (arith, g .kroner-small)))
-    (record-is w _ _ _ h (s .args .k) (s .pre .1) (m .moved-by .result) _ _ g)
+    let n = few-lines (b .suppliers) (b .elements) (p .0 .suppliers) (p .0 .elements) in
+    let h = mod-lt (s .args .k) (has-elements s) in
+    let l = p .0 .elements in
+    rw (abs-back (m .moved-by .result .quantity) (omega (arith, g .quantity-small)), abs-back (m .moved-by .result .kroner) (omega (arith, g .kroner-small))) (
+      record {
+        kind = omega (arith, p .2);
+        supplier = omega (arith, div-le-self (s .args .k) (b .elements), p .1);
+        element = omega arith;
+        quantity = omega (arith, g .quantity-small);
+        kroner = omega (arith, g .kroner-small);
+        billionths = omega (arith, g .form);
+      },
+      λ w h. record-is w _ _ _ h (s .args .k) (s .pre .1) (m .moved-by .result) _ _ g,
+    )
 
 pub record-of-spec : {M : Type 1} → statement M
 record-of-spec = tie.close (tie.spec mul-moved-by moved-by-requires div-t8 add-t9 rem-t10 returns)
