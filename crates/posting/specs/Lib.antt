@@ -16,3 +16,4 @@ pub mod RowRange
 pub mod Posted
 pub mod Repaid
 pub mod Reread
+pub mod Sizes

@@ -1,5 +1,5 @@
 -- `queries::ask_supplier` meets its contract: by cases on the number.
-use mathlib.Core.Path.{sym, _∙_}
+use mathlib.Core.Path.{sym, ap, _∙_}
 use Rattle.rules.specs.Effects.{ask}
 use borrow.Author.Needs.{needs}
 use Rattle.queries.proofs.ask_supplier.Statement.{statement}
@@ -10,11 +10,11 @@ is-within-requires c κs = search needs
 
 returns : tie.Need-returns
 unfolding ask
-returns c = rw (sym (c .before .is-within .ensures) ∙ c .if1 .taken)
+returns c = sym (ap (λ b. ask b 6 0) (sym (c .before .is-within .ensures) ∙ c .if1 .taken))
 
 returns-2 : tie.Need-returns-2
 unfolding ask
-returns-2 c = rw (sym (c .before .is-within .ensures) ∙ c .if1 .left)
+returns-2 c = sym (ap (λ b. ask b 6 0) (sym (c .before .is-within .ensures) ∙ c .if1 .left))
 
 pub ask-supplier-spec : {M : Type 1} → statement M
 ask-supplier-spec = tie.close (tie.spec is-within-requires returns returns-2)
