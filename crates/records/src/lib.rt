@@ -28,7 +28,14 @@ fn listed_record(book: Book, lines: &[i64], sent: &[i64], moved: &[u64], i: usiz
 }
 
 // The records of `count` lines whose numbers are listed, at the front of the list; entries past them stay as lent. Linear in them.
-pub fn put_list(list: &mut [Record], book: Book, lines: &[i64], sent: &[i64], moved: &[u64], count: usize)
+pub fn put_list(
+    list: &mut [Record],
+    book: Book,
+    lines: &[i64],
+    sent: &[i64],
+    moved: &[u64],
+    count: usize,
+)
     requires { ⌜ Settled book (now lines) (now sent) × (book .round ≤ 3) × (count ≤ length (now moved)) × (count ≤ length (now list)) × ((i : ℕ) → i < count → getD (now moved) i 0 < linesIn book) ⌝ }
     ensures { λ _. ⌜ ((w : World) → IsWorld w book (now (lines .entry)) (now (sent .entry)) → now (list .exit) ≡ listTo (λ i. recordOf w (supplierOf (w .opening) (getD (now (moved .entry)) i 0)) (elementOf (w .opening) (getD (now (moved .entry)) i 0))) count ++ drop count (now (list .entry))) ⌝ }
 {

@@ -1,0 +1,56 @@
+// The file reader of document 01, "File and program": the bytes it was lent and how far it has come, and few thin functions over them. What
+// stands at a place is decided by the field decoder of `wire`.
+use wire::Found;
+use wire::Phase;
+use wire::field_at;
+ghost use mathlib.Core.Path.{_≡_};
+ghost use Prim.Native.Nat.{_-_, _≤_};
+ghost use lib.ListN.{length, drop};
+ghost use Rattle.wire.specs.Field.{fieldIn, fieldFrom};
+
+// "The reader carries the bytes it was lent and how far it has come."
+pub struct Reader<'a> {
+    pub bytes: &'a [u8],
+    pub at: usize,
+}
+
+// A reader of the bytes, at a place.
+pub fn reader_at<'a>(bytes: &'a [u8], at: usize) -> Reader<'a>
+    ensures { λ r. ⌜ (r .bytes ≡ bytes .entry) × (r .at ≡ at) ⌝ }
+{
+    Reader { bytes, at }
+}
+
+// The field at the reader's place.
+pub fn field<'a>(r: Reader<'a>, phase: Phase, ended: bool) -> Found
+    requires { ⌜ r .at ≤ length (now (r .bytes)) ⌝ }
+    ensures { λ f. ⌜ f ≡ fieldFrom (r .entry .at) (fieldIn (drop (r .entry .at) (now (r .entry .bytes))) phase ended) ⌝ }
+{
+    field_at(r.bytes, r.at, phase, ended)
+}
+
+// The reader moved on, to the place behind a field.
+pub fn moved<'a>(r: Reader<'a>, next: usize) -> Reader<'a>
+    ensures { λ q. ⌜ (q .bytes ≡ r .entry .bytes) × (q .at ≡ next) ⌝ }
+{
+    Reader {
+        bytes: r.bytes,
+        at: next,
+    }
+}
+
+// How many bytes are left.
+pub fn left<'a>(r: Reader<'a>) -> usize
+    requires { ⌜ r .at ≤ length (now (r .bytes)) ⌝ }
+    ensures { λ n. ⌜ n ≡ length (now (r .entry .bytes)) - r .entry .at ⌝ }
+{
+    r.bytes.len() - r.at
+}
+
+// The field at a place of bytes, through a reader: for callers whose parameters are plain.
+pub fn find(bytes: &[u8], at: usize, phase: Phase, ended: bool) -> Found
+    requires { ⌜ at ≤ length (now bytes) ⌝ }
+    ensures { λ f. ⌜ f ≡ fieldFrom at (fieldIn (drop at (now (bytes .entry))) phase ended) ⌝ }
+{
+    field(reader_at(bytes, at), phase, ended)
+}

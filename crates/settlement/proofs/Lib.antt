@@ -1,0 +1,2 @@
+-- Laws of messages that are taken: for the proofs of the functions, and for callers.
+pub mod Applying

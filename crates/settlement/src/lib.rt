@@ -1,0 +1,147 @@
+// The entry points for messages: judge, changes of lines, question 17, tables and lines, records and what was sent.
+ghost use mathlib.Core.Path.{_≡_};
+ghost use mathlib.Core.List.{List, []};
+ghost use mathlib.Core.Bool.{true, _&&_};
+ghost use lib.IntN.{ℤ};
+ghost use lib.ListN.{length};
+ghost use Prim.Native.Nat.{ℕ, _*_, _≤_};
+ghost use Rattle.rules.specs.Answers.{numberOf};
+ghost use Rattle.rules.specs.World.{World, openingOf, tablesOf, worldOf};
+ghost use Rattle.rules.specs.Basics.{allTo};
+ghost use Rattle.rules.specs.WellFormed.{rowsFit, lineRight};
+ghost use Rattle.rules.specs.Effects.{told, isRound};
+ghost use Rattle.rules.specs.declared.Answer.the-variants.{Accepted};
+ghost use Rattle.ledger.specs.Added.{addedLines, Changes};
+ghost use Rattle.writing.specs.Recorded.{Countable};
+ghost use Rattle.rules.proofs.Parts.{Whole};
+ghost use Rattle.rounds.specs.Moved.{IsWorld, Settled};
+ghost use Rattle.settlement.specs.Replies.{Appliable, Applied, Sending, Replied};
+use book::check_book;
+use messages::number;
+use intake::Understood;
+use intake::understand;
+use ledger::commit_lines;
+use ledger::lines_fit;
+use messages::decide;
+use posting::post;
+use rounds::copy_lines;
+use rounds::moved_lines;
+use rounds::next_round;
+use rounds::put_records;
+use rules::Answer;
+use rules::Body;
+use rules::Book;
+use rules::Fields;
+use writing::rows_fit_after;
+use writing::write_tables;
+
+// What an entry point for messages answers: the answer, the book afterwards, and how many records the list now holds.
+pub struct Reply {
+    pub answer: Answer,
+    pub book: Book,
+    pub records: usize,
+}
+
+fn accepted(book: Book, records: usize) -> Reply
+    ensures { λ r. ⌜ (r .answer ≡ Accepted) × (r .book ≡ book) × (r .records ≡ records) ⌝ }
+{
+    Reply {
+        answer: Answer::Accepted,
+        book: book,
+        records: records,
+    }
+}
+
+fn refused(answer: Answer, book: Book) -> Reply
+    ensures { λ r. ⌜ (r .answer ≡ answer) × (r .book ≡ book) × (r .records ≡ 0) ⌝ }
+{
+    Reply {
+        answer: answer,
+        book: book,
+        records: 0,
+    }
+}
+
+// Question 17: do the rows fit their tables afterwards, and the lines their bounds. Cost: linear in the lines, logarithmic in the rows.
+fn is_fitting(
+    book: Book,
+    links: &[u64],
+    holders: &[u64],
+    states: &[u64],
+    lines: &[i64],
+    quantities: &[i64],
+    amounts: &[i64],
+    body: Body,
+) -> bool
+    requires { ⌜ Countable book (now links) (now holders) (now states) body ⌝ }
+    requires { ⌜ Changes (now lines) (now quantities) (now amounts) (book .suppliers * book .elements) ⌝ }
+    ensures { λ r. ⌜ ((ds : List ℕ) (ps : List ℤ) (rs bs : List ℕ) → r ≡ (rowsFit (told (openingOf book ds ps) (tablesOf book (now (links .entry)) (now (holders .entry)) (now (states .entry)) rs bs) body) && allTo (λ k. lineRight (addedLines (now (lines .entry)) (now (quantities .entry)) (now (amounts .entry)) (book .suppliers * book .elements)) (k * 3)) (book .suppliers * book .elements))) ⌝ }
+{
+    let count = (book.suppliers * book.elements) as usize;
+    let lines_right = lines_fit(lines, quantities, amounts, count);
+    if rows_fit_after(book, links, holders, states, body) {
+        lines_right
+    } else {
+        false
+    }
+}
+
+// Messages 1 to 7: the changes of the lines, question 17, then tables and lines. Cost: linear in the lines, the point's rows and the days of
+// the month, and in the rows behind the place of a new one.
+fn apply(
+    book: Book,
+    element_data: &[u8],
+    prices: &[i64],
+    links: &mut [u64],
+    holders: &mut [u64],
+    states: &mut [u64],
+    readings: &mut [u32],
+    blocks: &mut [u8],
+    lines: &mut [i64],
+    body: Body,
+) -> Reply
+    requires { ⌜ Appliable (openingOf book (now element_data) (now prices)) (tablesOf book (now links) (now holders) (now states) (now readings) (now blocks)) (now lines) body ⌝ }
+    ensures { λ r. ⌜ ((ts : List ℤ) → Applied (worldOf book (now (element_data .entry)) (now (prices .entry)) (now (links .entry)) (now (holders .entry)) (now (states .entry)) (now (readings .entry)) (now (blocks .entry)) (now (lines .entry)) ts) (worldOf (r .book) (now (element_data .entry)) (now (prices .entry)) (now (links .exit)) (now (holders .exit)) (now (states .exit)) (now (readings .exit)) (now (blocks .exit)) (now (lines .exit)) ts) body (numberOf (r .answer))) × (r .records ≡ 0) ⌝ }
+{
+    let mut quantities = [0i64; 1024];
+    let mut amounts = [0i64; 1024];
+    post(
+        &mut quantities,
+        &mut amounts,
+        book,
+        element_data,
+        prices,
+        links,
+        holders,
+        states,
+        readings,
+        blocks,
+        body,
+    );
+    if is_fitting(
+        book,
+        links,
+        holders,
+        states,
+        lines,
+        &quantities,
+        &amounts,
+        body,
+    ) {
+        let after = write_tables(
+            book,
+            element_data,
+            links,
+            holders,
+            states,
+            readings,
+            blocks,
+            body,
+        );
+        let count = (book.suppliers * book.elements) as usize;
+        commit_lines(lines, &quantities, &amounts, count);
+        accepted(after, 0)
+    } else {
+        refused(Answer::TableFull, book)
+    }
+}
