@@ -42,6 +42,21 @@ pub record Applied (w after : World) (b : Body) (number : ℕ) : Type 0 where
   pub number-is : number ≡ ask (question17 w b) 17 0
   pub world : after ≡ cond (question17 w b) (movedOn w b) w
 
+-- a book with another kind of the next round
+abbrev pub withRound : Book → ℕ → Book
+withRound b n =
+    record {
+      year = b .year;
+      month = b .month;
+      points = b .points;
+      suppliers = b .suppliers;
+      elements = b .elements;
+      periods = b .periods;
+      holders = b .holders;
+      states = b .states;
+      round = n;
+    }
+
 -- a round: question 18, what was sent, and the list of records as numbers
 pub record Sending (w : World) (b : Book) (r : Reply) (totals lent out : List ℤ) : Type 0 where
   pub number-is : numberOf (r .answer) ≡ ask (question18 w Round (roomIn lent)) 18 0

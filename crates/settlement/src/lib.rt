@@ -15,7 +15,7 @@ ghost use Rattle.ledger.specs.Added.{addedLines, Changes};
 ghost use Rattle.writing.specs.Recorded.{Countable};
 ghost use Rattle.rules.proofs.Parts.{Whole};
 ghost use Rattle.rounds.specs.Moved.{IsWorld, Settled};
-ghost use Rattle.settlement.specs.Replies.{Appliable, Applied, Sending, Replied};
+ghost use Rattle.settlement.specs.Replies.{Appliable, Applied, withRound, Sending, Replied};
 use book::check_book;
 use messages::number;
 use intake::Understood;
@@ -143,5 +143,169 @@ fn apply(
         accepted(after, 0)
     } else {
         refused(Answer::TableFull, book)
+    }
+}
+
+fn with_round(book: Book, round: u64) -> Book
+    ensures { λ r. ⌜ r ≡ withRound book round ⌝ }
+{
+    let mut next = book;
+    next.round = round;
+    next
+}
+
+// Message 8: question 18, then the records, what is sent and the kind of the next round. Linear in the lines.
+fn send(book: Book, lines: &[i64], sent: &mut [i64], records: &mut [i64]) -> Reply
+    requires { ⌜ Settled book (now lines) (now sent) × (1 ≤ book .round) × (book .round ≤ 3) ⌝ }
+    ensures { λ r. ⌜ ((w : World) → IsWorld w book (now (lines .entry)) (now (sent .entry)) → Sending w book r (now (sent .exit)) (now (records .entry)) (now (records .exit))) ⌝ }
+{
+    let mut moved = [0u64; 1024];
+    let count = moved_lines(book, lines, sent, &mut moved);
+    if count <= records.len() / 6 {
+        put_records(book, lines, sent, &moved, count, records);
+        copy_lines(lines, sent);
+        accepted(with_round(book, next_round(book.round)), count)
+    } else {
+        refused(Answer::ListFull, book)
+    }
+}
+
+fn is_round(body: Body) -> bool
+    ensures { λ r. ⌜ r ≡ isRound body ⌝ }
+{
+    match body {
+        Body::Link {
+            point,
+            element,
+            day,
+            quantity,
+        } => false,
+        Body::Stop {
+            point,
+            element,
+            day,
+        } => false,
+        Body::Quantity {
+            point,
+            element,
+            day,
+            quantity,
+        } => false,
+        Body::Holder { point, day, holder } => false,
+        Body::State { point, day, state } => false,
+        Body::Reading {
+            point,
+            day,
+            hour,
+            energy,
+        } => false,
+        Body::Block { point, blocked } => false,
+        Body::Round => true,
+    }
+}
+
+// A message of a book that is well formed, and stays so: questions 6 to 18. Cost: as for `apply` and `send`.
+pub fn message_within(
+    book: Book,
+    element_data: &[u8],
+    prices: &[i64],
+    links: &mut [u64],
+    holders: &mut [u64],
+    states: &mut [u64],
+    readings: &mut [u32],
+    blocks: &mut [u8],
+    lines: &mut [i64],
+    sent: &mut [i64],
+    records: &mut [i64],
+    fields: Fields,
+) -> Reply
+    requires { ⌜ Whole (worldOf book (now element_data) (now prices) (now links) (now holders) (now states) (now readings) (now blocks) (now lines) (now sent)) ⌝ }
+    ensures { λ r. ⌜ Replied (worldOf book (now (element_data .entry)) (now (prices .entry)) (now (links .entry)) (now (holders .entry)) (now (states .entry)) (now (readings .entry)) (now (blocks .entry)) (now (lines .entry)) (now (sent .entry))) (worldOf (r .book) (now (element_data .entry)) (now (prices .entry)) (now (links .exit)) (now (holders .exit)) (now (states .exit)) (now (readings .exit)) (now (blocks .exit)) (now (lines .exit)) (now (sent .exit))) fields r (now (records .entry)) (now (records .exit)) × Whole (worldOf (r .book) (now (element_data .entry)) (now (prices .entry)) (now (links .exit)) (now (holders .exit)) (now (states .exit)) (now (readings .exit)) (now (blocks .exit)) (now (lines .exit)) (now (sent .exit))) ⌝ }
+{
+    let understood = understand(book.suppliers, fields);
+    let Understood::Passed(m) = understood else {
+        return refused(Answer::OutOfRange, book);
+    };
+    let decision = decide(
+        book,
+        element_data,
+        prices,
+        links,
+        holders,
+        states,
+        readings,
+        blocks,
+        m,
+    );
+    if number(decision) == 0 {
+        let body = m.body;
+        if is_round(body) {
+            send(book, lines, sent, records)
+        } else {
+            apply(
+                book,
+                element_data,
+                prices,
+                links,
+                holders,
+                states,
+                readings,
+                blocks,
+                lines,
+                body,
+            )
+        }
+    } else {
+        refused(decision, book)
+    }
+}
+
+// A message of any book and any tables: questions 2 to 18. The list holds a sixth of its numbers of records. A refusal leaves book, tables and
+// list as they were.
+pub fn message(
+    book: Book,
+    element_data: &[u8],
+    prices: &[i64],
+    links: &mut [u64],
+    holders: &mut [u64],
+    states: &mut [u64],
+    readings: &mut [u32],
+    blocks: &mut [u8],
+    lines: &mut [i64],
+    sent: &mut [i64],
+    records: &mut [i64],
+    fields: Fields,
+) -> Reply
+    ensures { λ r. ⌜ Replied (worldOf book (now (element_data .entry)) (now (prices .entry)) (now (links .entry)) (now (holders .entry)) (now (states .entry)) (now (readings .entry)) (now (blocks .entry)) (now (lines .entry)) (now (sent .entry))) (worldOf (r .book) (now (element_data .entry)) (now (prices .entry)) (now (links .exit)) (now (holders .exit)) (now (states .exit)) (now (readings .exit)) (now (blocks .exit)) (now (lines .exit)) (now (sent .exit))) fields r (now (records .entry)) (now (records .exit)) ⌝ }
+{
+    let checked = check_book(
+        book,
+        element_data,
+        prices,
+        links,
+        holders,
+        states,
+        readings,
+        blocks,
+        lines,
+        sent,
+    );
+    if number(checked) == 0 {
+        message_within(
+            book,
+            element_data,
+            prices,
+            links,
+            holders,
+            states,
+            readings,
+            blocks,
+            lines,
+            sent,
+            records,
+            fields,
+        )
+    } else {
+        refused(checked, book)
     }
 }

@@ -27,7 +27,7 @@ use denote.Slice.{slice-vals, shr-slice-tells, shr-slice-lawful}
 use denote.Triple.Entry.{Vals, onEntry}
 use denote.Triple.Spec.{Meets, tripleOf}
 use denote.Triple.Table.{entered}
-use denote.Triple.Walked.{says, Stays, stay-none, stay-none-slice, walkOf, goes-none, goes-none-slice, Walks, ends-at, walked, walk-meets}
+use denote.Triple.Walked.{says, Stays, stay-none, stay-none-slice, walkOf, goes-none, goes-none-slice, ends-at, walked, walk-meets}
 use denote.Exit.{yes}
 use Rattle.reader.proofs.Held.{Bytes, bytesVal, reader, OwnBytes, twice-bytes, makes}
 use Rattle.reader.proofs.Reader.Laws as T′
