@@ -1,0 +1,40 @@
+//! Days of document 01: day 0 is 1 January 2000.
+
+/// One more than the last day, 31 December 2099.
+pub const DAY_COUNT: u32 = 36_525;
+
+pub fn days_in_month(year: u64, month: u64) -> u32 {
+    match month {
+        4 | 6 | 9 | 11 => 30,
+        // 2000 is a leap year and 2100 is outside, so every fourth year is one.
+        2 if year.is_multiple_of(4) => 29,
+        2 => 28,
+        _ => 31,
+    }
+}
+
+/// First day of a month of the years 2000 to 2099.
+pub fn first_day_of_month(year: u64, month: u64) -> u32 {
+    let years = (year - 2000) as u32;
+    let leap_days = years.div_ceil(4);
+    let months: u32 = (1..month).map(|m| days_in_month(year, m)).sum();
+    years * 365 + leap_days + months
+}
+
+#[cfg(test)]
+mod tests {
+    use super::*;
+
+    #[test]
+    fn months_follow_each_other() {
+        let mut day = 0;
+        for year in 2000..2100 {
+            for month in 1..=12 {
+                assert_eq!(first_day_of_month(year, month), day);
+                day += days_in_month(year, month);
+            }
+        }
+        assert_eq!(day, DAY_COUNT);
+        assert_eq!(first_day_of_month(2024, 3), 8826);
+    }
+}

@@ -1,0 +1,1 @@
+-- A run from an opened book.

@@ -1,0 +1,2 @@
+-- Laws of the definitions, each file above what it cites.
+pub mod StageLaws

@@ -1,0 +1,2 @@
+-- The run of the program: what a reader must believe.
+pub mod Stages

@@ -1,0 +1,88 @@
+-- How far a run of `settle` has come, what is still printed for the bytes that are left, and what one field does.
+use Prim.Native.Nat.{ℕ, suc}
+use mathlib.Core.Bool.{Bool, true, false, cond}
+use mathlib.Core.List.{List, [], _∷_, _++_}
+use lib.ListN.{length, take, drop}
+use lib.Dec.{eqb}
+use Rattle.rules.specs.World.{Opening, World, monthDays, monthFirst}
+use Rattle.rules.specs.Opening.{opened}
+use Rattle.rules.specs.Effects.{step}
+use Rattle.wire.specs.declared.Phase.{Phase}
+use Rattle.wire.specs.declared.Found.{Found}
+use Rattle.wire.specs.declared.Found.the-variants.{Month, Element, Message, End, More, Broken}
+use Rattle.wire.specs.Lines.{bookLine}
+use Rattle.wire.specs.Program.{endedBy, recordPlaces, answered, messagesFrom, Heading, collected, lent, settleAnswer, elementsFrom, settled}
+
+-- before tag 1; after it, with the values of the elements so far; after the opening, with the number of the next message; at the end
+pub data Stage : Type 0 where
+  start : Stage
+  elements : Heading → List (List ℕ) → Stage
+  messages : World → ℕ → Stage
+  over : Stage
+
+-- the fields that may come next
+unfoldable pub phaseOf : Stage → Phase
+phaseOf start = Phase.Start
+phaseOf (elements h values) = Phase.Elements
+phaseOf (messages w number) = Phase.Messages
+phaseOf over = Phase.Start
+
+-- what is still printed
+unfoldable pub printed : Stage → List ℕ → List ℕ
+printed start bytes = settled bytes
+printed (elements h values) bytes = elementsFrom (suc (length bytes)) bytes h values
+printed (messages w number) bytes = messagesFrom (suc (length bytes)) bytes w number
+printed over bytes = []
+
+-- what one field does: the text, the stage behind it, and the place that the run goes on from
+pub record Move : Type 0 where
+  pub text : List ℕ
+  pub stage : Stage
+  pub next : ℕ
+
+-- nothing is printed, and the run goes on from a place
+abbrev pub quiet : Stage → ℕ → Move
+quiet stage next = record { text = []; stage = stage; next = next }
+
+-- "Refusals 1 to 4 print `refused 0 N` and end the run"
+unfoldable pub broken : ℕ → ℕ → Move
+broken at question = record { text = endedBy question; stage = over; next = at }
+
+-- the book's line
+unfoldable pub lineOf : Opening → List ℕ
+lineOf o = bookLine (o .year) (o .month) (monthDays o) (monthFirst o)
+
+-- "The book opens, printing its line": the run goes on from the same place with a stage that the opened world gives
+unfoldable pub opening : ℕ → Opening → (World → Stage) → Move
+opening at o more = cond (eqb (settleAnswer o) 0) (record { text = lineOf o; stage = more (opened (lent o)); next = at }) (broken at (settleAnswer o))
+
+-- a field that was found from a place of the bytes on; where the bytes in hand end within it, nothing yet
+unfoldable pub moveOn : (at : ℕ) → Stage → Found → List ℕ → Move
+moveOn at start (Month year month points suppliers next) bytes = quiet (elements (record { year = year; month = month; points = points; suppliers = suppliers }) []) next
+moveOn at start (Element from size next) bytes = broken at 1
+moveOn at start (Message f next) bytes = broken at 1
+moveOn at start End bytes = broken at 1
+moveOn at start More bytes = quiet start at
+moveOn at start Broken bytes = broken at 1
+moveOn at (elements h values) (Month year month points suppliers next) bytes = broken at 1
+moveOn at (elements h values) (Element from size next) bytes = quiet (elements h (values ++ (take size (drop from bytes) ∷ []))) next
+moveOn at (elements h values) (Message f next) bytes = opening at (collected h values) (λ w. messages w 1)
+moveOn at (elements h values) End bytes = opening at (collected h values) (λ w. over)
+moveOn at (elements h values) More bytes = quiet (elements h values) at
+moveOn at (elements h values) Broken bytes = broken at 1
+moveOn at (messages w number) (Month year month points suppliers next) bytes = broken at 1
+moveOn at (messages w number) (Element from size next) bytes = broken at 1
+moveOn at (messages w number) (Message f next) bytes = record { text = answered w f number; stage = messages (step w f recordPlaces) (suc number); next = next }
+moveOn at (messages w number) End bytes = quiet over at
+moveOn at (messages w number) More bytes = quiet (messages w number) at
+moveOn at (messages w number) Broken bytes = broken at 1
+moveOn at over found bytes = quiet over at
+
+-- the bytes in hand end within a field
+unfoldable pub isMore : Found → Bool
+isMore (Month year month points suppliers next) = false
+isMore (Element from size next) = false
+isMore (Message f next) = false
+isMore End = false
+isMore More = true
+isMore Broken = false
