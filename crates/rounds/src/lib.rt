@@ -137,8 +137,15 @@ fn put_record(out: &mut [i64], at: usize, r: Record)
 }
 
 // The records of `count` lines whose numbers are listed, at the front of `out`. Linear in them.
-pub fn put_records(book: Book, lines: &[i64], sent: &[i64], moved: &[u64], count: usize, out: &mut [i64])
-    requires { ⌜ Settled book (now lines) (now sent) × (book .round ≤ 3) ⌝ }
+pub fn put_records(
+    book: Book,
+    lines: &[i64],
+    sent: &[i64],
+    moved: &[u64],
+    count: usize,
+    out: &mut [i64],
+)
+    requires { ⌜ (0 < count → Settled book (now lines) (now sent) × (book .round ≤ 3)) ⌝ }
     requires { ⌜ (count ≤ length (now moved)) × (count * 6 ≤ length (now out)) × ((i : ℕ) → i < count → getD (now moved) i 0 < linesIn book) ⌝ }
     ensures { λ _. ⌜ ((w : World) → IsWorld w book (now (lines .entry)) (now (sent .entry)) → now (out .exit) ≡ numbersAfter (listTo (λ i. recordOf w (supplierOf (w .opening) (getD (now (moved .entry)) i 0)) (elementOf (w .opening) (getD (now (moved .entry)) i 0))) count) (now (out .entry))) ⌝ }
 {

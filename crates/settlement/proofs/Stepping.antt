@@ -6,9 +6,9 @@ use mathlib.Core.Bool.{Bool, true, false, _&&_, cond, false≢true}
 use mathlib.Core.List.{List, []}
 use mathlib.Core.Option.{Option, none, some}
 use lib.IntN.{ℤ}
-use lib.ListN.{length}
+use lib.ListN.{length, getD}
 use lib.Dec.{leb, eqb}
-use borrow.Author.Tests.{eqb-true, eq-eqb, ne-eqb, le-leb}
+use borrow.Author.Tests.{eqb-true, eq-eqb, ne-eqb, le-leb, lt-leb}
 use native.Mathlib.Omega.{arith}
 use Rattle.rules.specs.declared.Answer.{Answer}
 use Rattle.rules.specs.declared.Book.{Book}
@@ -20,7 +20,8 @@ use Rattle.rules.specs.Answers.{numberOf}
 use Rattle.rules.specs.World.{Opening, Tables, Position, World, Sent, worldOf, openingOf, tablesOf}
 use Rattle.rules.specs.WellFormed.{rowsFit, withinLimits, openingSized, tablesSized, linesSized, tablesRight, linesRight, linePlaces, question2, question3, question4, question5}
 use Rattle.rules.specs.Messages.{understood, bodyIn}
-use Rattle.rules.specs.Effects.{told, isRound, written, records, sentAfter, tablesAfter, linesAfter, posted, ask, question17, question18, answerTo, askBook, answer, accepted, stepBy, step, writtenBy, recordsOf}
+use Rattle.rules.specs.Basics.{listTo}
+use Rattle.rules.specs.Effects.{supplierOf, elementOf, recordOf, told, isRound, written, records, sentAfter, tablesAfter, linesAfter, posted, ask, question17, question18, answerTo, askBook, answer, accepted, stepBy, step, writtenBy, recordsOf}
 use Rattle.rules.proofs.Tests.{cases, both}
 use Rattle.rules.proofs.Parts.{Whole}
 use Rattle.rules.proofs.Passed.{Ready, Behind, behind, Taken, taken}
@@ -29,10 +30,12 @@ use Rattle.book.proofs.Passes.{book-refused}
 use Rattle.messages.specs.Decided.{decided}
 use Rattle.messages.proofs.Next.{answer-decided, decided-passed, decided-refused}
 use Rattle.ledger.proofs.MovedLines.{moved-none}
-use Rattle.rounds.specs.RecordNumbers.{numbersAfter, numbers-none}
+use Rattle.rounds.specs.Moved.{linesIn, IsWorld, Settled, Listed}
+use Rattle.rounds.specs.RecordNumbers.{numbersAfter}
 use Rattle.rounds.proofs.Sending.{other-written, other-sent, round-written}
 use Rattle.settlement.specs.declared.Reply.{Reply}
-use Rattle.settlement.specs.Replies.{roomIn, movedOn, Applied, Sending, Replied}
+use Rattle.settlement.proofs.Rounding.{fits-18}
+use Rattle.settlement.specs.Replies.{roomIn, movedOn, Applied, Sending, Answered, Due, Replied}
 
 -- ---- answers that refuse and answers that accept
 
@@ -46,27 +49,25 @@ module _ (w : World) (f : Fields) (room : ℕ) where
   accepted-some h m u = rw (h, u)
 
 -- a refusal leaves everything as it was
-pub replied-refused : (w : World) (f : Fields) (lent : List ℤ) (r : Reply) (n : ℕ) → answer w f (roomIn lent) ≡ n → n ≢ 0 → numberOf (r .answer) ≡ n → r .records ≡ 0 → Replied w w f r lent lent
+pub answered-refused : (w : World) (f : Fields) (room : ℕ) (r : Reply) (n : ℕ) → answer w f room ≡ n → n ≢ 0 → numberOf (r .answer) ≡ n → r .records ≡ 0 → Answered w w f r room
 unfolding step stepBy recordsOf writtenBy
-replied-refused w f lent r n e z a k =
-    let q = refused-none w f (roomIn lent) (λ y. z (sym e ∙ y)) in
+answered-refused w f room r n e z a k =
+    let q = refused-none w f room (λ y. z (sym e ∙ y)) in
     record {
       number = a ∙ sym e;
       world = rw q;
-      list = rw q (numbers-none lent);
       count = rw q k;
     }
 
 -- and an acceptance leaves the world with the message posted
-replied-accepted : (w after : World) (f : Fields) (lent out : List ℤ) (r : Reply) (m : Message) → understood (w .opening .suppliers) f ≡ some m → answer w f (roomIn lent) ≡ 0 → numberOf (r .answer) ≡ 0
-    → after ≡ posted w (m .body) → out ≡ numbersAfter (written w (m .body)) lent → r .records ≡ length (written w (m .body)) → Replied w after f r lent out
+answered-accepted : (w after : World) (f : Fields) (room : ℕ) (r : Reply) (m : Message) → understood (w .opening .suppliers) f ≡ some m → answer w f room ≡ 0 → numberOf (r .answer) ≡ 0
+    → after ≡ posted w (m .body) → r .records ≡ length (written w (m .body)) → Answered w after f r room
 unfolding step stepBy recordsOf writtenBy
-replied-accepted w after f lent out r m u e a v l k =
-    let q = accepted-some w f (roomIn lent) e m u in
+answered-accepted w after f room r m u e a v k =
+    let q = accepted-some w f room e m u in
     record {
       number = a ∙ sym e;
       world = rw q v;
-      list = rw q l;
       count = rw q k;
     }
 
@@ -122,16 +123,15 @@ moved-posted : (w : World) (b : Body) → isRound b ≡ false → movedOn w b �
 unfolding movedOn posted
 moved-posted w b h = rw (other-sent w b h)
 
-pub replied-applied : (w after : World) → Whole w → (f : Fields) (lent : List ℤ) (r : Reply) (m : Message) → understood (w .opening .suppliers) f ≡ some m
-    → decided (w .opening) (w .position .tables) m 0 ≡ 0 → isRound (m .body) ≡ false → Applied w after (m .body) (numberOf (r .answer)) → r .records ≡ 0 → Replied w after f r lent lent
+pub answered-applied : (w after : World) → Whole w → (f : Fields) (room : ℕ) (r : Reply) (m : Message) → understood (w .opening .suppliers) f ≡ some m
+    → decided (w .opening) (w .position .tables) m 0 ≡ 0 → isRound (m .body) ≡ false → Applied w after (m .body) (numberOf (r .answer)) → r .records ≡ 0 → Answered w after f r room
 unfolding ask
-replied-applied w after c f lent r m u p o g k =
-    let room = roomIn lent in
+answered-applied w after c f room r m u p o g k =
     let e : answer w f room ≡ ask (question17 w (m .body)) 17 0 = answer-rest w c f room m u p ∙ rw (other-fits w (m .body) room o) in
     cases (question17 w (m .body))
-    (λ t. replied-accepted w after f lent lent r m u (e ∙ rw t) (g .number-is ∙ rw t) (g .world ∙ rw t (moved-posted w (m .body) o)) (rw (other-written w (m .body) o) (numbers-none lent)) (rw (other-written w (m .body) o) k))
+    (λ t. answered-accepted w after f room r m u (e ∙ rw t) (g .number-is ∙ rw t) (g .world ∙ rw t (moved-posted w (m .body) o)) (rw (other-written w (m .body) o) k))
     (λ t. let z : after ≡ w = g .world ∙ rw t in
-    rw z (replied-refused w f lent r 17 (e ∙ rw t) (λ y. omega arith) (g .number-is ∙ rw t) k))
+    rw z (answered-refused w f room r 17 (e ∙ rw t) (λ y. omega arith) (g .number-is ∙ rw t) k))
 
 -- ---- message 8
 
@@ -158,15 +158,15 @@ round-position w c =
     ap (λ (x : List ℤ). record { tables = t; lines = x }) (moved-none o (w .position .lines) t l r)
 
 -- the world of a book after a round
-module _ (b : Book) (ds : List ℕ) (ps : List ℤ) (ls hs ss rs bs : List ℕ) (lines ts : List ℤ) (r : Reply) (totals lent out : List ℤ) where
+module _ (b : Book) (ds : List ℕ) (ps : List ℤ) (ls hs ss rs bs : List ℕ) (lines ts : List ℤ) (r : Reply) (totals : List ℤ) (room : ℕ) where
   abbrev sw : World
   sw = worldOf b ds ps ls hs ss rs bs lines ts
 
   abbrev after : World
   after = worldOf (r .book) ds ps ls hs ss rs bs lines totals
 
-  after-is : Sending sw b r totals lent out
-      → after ≡ record { opening = sw .opening; position = sw .position; sent = cond (question18 sw Round (roomIn lent)) (sentAfter sw Round) (sw .sent) }
+  after-is : Sending sw b r totals room
+      → after ≡ record { opening = sw .opening; position = sw .position; sent = cond (question18 sw Round room) (sentAfter sw Round) (sw .sent) }
   after-is g =
       let o = g .opening ds ps in
       let n = g .rows in
@@ -186,22 +186,20 @@ module _ (b : Book) (ds : List ℕ) (ps : List ℤ) (ls hs ss rs bs : List ℕ) 
         sent = s i;
       }
 
-  pub replied-sent : Whole sw → (f : Fields) (m : Message) → understood (b .suppliers) f ≡ some m
-      → decided (sw .opening) (sw .position .tables) m 0 ≡ 0 → m .body ≡ Round → Sending sw b r totals lent out → Replied sw after f r lent out
+  pub answered-sent : Whole sw → (f : Fields) (m : Message) → understood (b .suppliers) f ≡ some m
+      → decided (sw .opening) (sw .position .tables) m 0 ≡ 0 → m .body ≡ Round → Sending sw b r totals room → Answered sw after f r room
   unfolding ask posted
-  replied-sent c f m u p o g =
-      let room = roomIn lent in
+  answered-sent c f m u p o g =
       let q = round-fits-17 sw c in
       let e : answer sw f room ≡ ask (question18 sw Round room) 18 0 = answer-rest sw c f room m u p ∙ rw (o, q) in
       let v = after-is g in
       cases (question18 sw Round room)
       (λ t. let z : after ≡ record { opening = sw .opening; position = sw .position; sent = sentAfter sw Round } = v ∙ rw t in
-      replied-accepted sw after f lent out r m u (e ∙ rw t) (g .number-is ∙ rw t)
+      answered-accepted sw after f room r m u (e ∙ rw t) (g .number-is ∙ rw t)
       (rw o (z ∙ ap (λ (x : Position). record { opening = sw .opening; position = x; sent = sentAfter sw Round }) (sym (round-position sw c))))
-      (rw (o, round-written sw) (g .list ∙ rw t)) (rw (o, round-written sw) (g .count ∙ rw t)))
+      (rw (o, round-written sw) (g .count ∙ rw t)))
       (λ t. let z : after ≡ sw = v ∙ rw t in
-      let y : out ≡ lent = g .list ∙ rw t (sym (numbers-none lent)) in
-      rw (z, y) (replied-refused sw f lent r 18 (e ∙ rw t) (λ x. omega arith) (g .number-is ∙ rw t) (g .count ∙ rw t)))
+      rw z (answered-refused sw f room r 18 (e ∙ rw t) (λ x. omega arith) (g .number-is ∙ rw t) (g .count ∙ rw t)))
 
 -- ---- a whole book stays whole
 
@@ -212,6 +210,14 @@ step-whole w f room c = by (accepted w f room) refl
     by : (x : Option Body) → accepted w f room ≡ x → Whole (stepBy w x)
     by none e = c
     by (some b) e = let k = taken w f room b e in posted-whole w b c (k .ready) (k .fits)
+
+pub answered-whole : (w after : World) (f : Fields) (r : Reply) (room : ℕ) → Whole w → Answered w after f r room → Whole after
+answered-whole w after f r room c g = rw (g .world) (step-whole w f room c)
+
+-- questions 2 to 5
+pub answer-book : (w : World) (f : Fields) (room : ℕ) → askBook w 0 ≢ 0 → answer w f room ≡ askBook w 0
+unfolding answer
+answer-book w f room h = book-refused w h _
 
 -- a body that the test says to be a round is one
 pub is-round : (b : Body) → isRound b ≡ true → b ≡ Round
@@ -225,10 +231,73 @@ is-round (Body.Reading p d k n) h = absurd (false≢true h)
 is-round (Body.Block p v) h = absurd (false≢true h)
 is-round Body.Round h = refl
 
-pub replied-whole : (w after : World) (f : Fields) (r : Reply) (lent out : List ℤ) → Whole w → Replied w after f r lent out → Whole after
-replied-whole w after f r lent out c g = rw (g .world) (step-whole w f (roomIn lent) c)
+-- ---- the records that are due
 
--- questions 2 to 5
-pub answer-book : (w : World) (f : Fields) (room : ℕ) → askBook w 0 ≢ 0 → answer w f room ≡ askBook w 0
-unfolding answer
-answer-book w f room h = book-refused w h _
+-- none where the message is no accepted round
+pub due-none : (w : World) (b : Book) (ls ts : List ℤ) (f : Fields) (room : ℕ) (moved : List ℕ) → recordsOf w f room ≡ [] → Due w b ls ts f room moved 0
+unfolding listTo
+due-none w b ls ts f room moved e =
+    record { few = omega arith; listed = omega arith; settled = λ l. absurd (omega arith); below = λ i l. absurd (omega arith); records = e }
+
+no-records : (w : World) (f : Fields) (room : ℕ) → answer w f room ≢ 0 → recordsOf w f room ≡ []
+unfolding recordsOf writtenBy
+no-records w f room h = rw (refused-none w f room h)
+
+-- a refused message
+pub due-refused : (w : World) (b : Book) (ls ts : List ℤ) (f : Fields) (room : ℕ) (moved : List ℕ) → answer w f room ≢ 0 → Due w b ls ts f room moved 0
+due-refused w b ls ts f room moved h = due-none w b ls ts f room moved (no-records w f room h)
+
+-- a message that is no round
+pub due-other : (w : World) (b : Book) (ls ts : List ℤ) (f : Fields) (room : ℕ) (moved : List ℕ) (m : Message) → understood (w .opening .suppliers) f ≡ some m → isRound (m .body) ≡ false
+    → Due w b ls ts f room moved 0
+unfolding recordsOf writtenBy
+due-other w b ls ts f room moved m u n = due-none w b ls ts f room moved (by (accepted w f room) refl)
+  where
+    by : (x : Option Body) → accepted w f room ≡ x → writtenBy w x ≡ []
+    by none e = refl
+    by (some y) e =
+        let k = taken w f room y e in
+        let v : some (k .message) ≡ some m = sym (k .is) ∙ u in
+        let z : k .message ≡ m = cc in
+        let q : isRound y ≡ false = subst (λ (x : Body). isRound x ≡ false) (ap (λ (x : Message). x .body) (sym z) ∙ k .body) n in
+        other-written w y q
+
+-- a round: all that moved where they fit, else none
+module _ (w : World) (c : Whole w) (b : Book) (ls ts : List ℤ) (h : IsWorld w b ls ts) (f : Fields) (room : ℕ) (m : Message) (u : understood (w .opening .suppliers) f ≡ some m)
+    (p : decided (w .opening) (w .position .tables) m 0 ≡ 0) (o : isRound (m .body) ≡ true) (lent moved : List ℕ) (n : ℕ) (l : Listed b ls ts lent moved n) where
+  round-answer : answer w f room ≡ ask (question18 w Round room) 18 0
+  unfolding ask
+  round-answer = answer-rest w c f room m u p ∙ rw (is-round (m .body) o, round-fits-17 w c)
+
+  pub due-round : n ≤ room → Settled b ls ts → b .round ≤ 3 → linesIn b ≤ 1024 → Due w b ls ts f room moved n
+  unfolding ask recordsOf writtenBy
+  due-round k s r z =
+      let q = fits-18 w b ls ts h lent moved n l room true (le-leb n room k) in
+      let e = accepted-some w f room (round-answer ∙ rw q) m u in
+      record {
+        few = k;
+        listed = omega (arith, l .few);
+        settled = λ _. (s, r);
+        below = l .below;
+        records = rw (e, is-round (m .body) o) (round-written w ∙ l .sent w h);
+      }
+
+  pub due-full : room < n → Due w b ls ts f room moved 0
+  unfolding ask
+  due-full k =
+      let q = fits-18 w b ls ts h lent moved n l room false (lt-leb n room k) in
+      due-refused w b ls ts f room moved (λ e. let z : 18 ≡ 0 = sym (round-answer ∙ rw q) ∙ e in omega arith)
+
+-- ---- the list of records as numbers
+
+pub replied-with : (w after : World) (b : Book) (ls ts : List ℤ) (f : Fields) (r : Reply) (lent out : List ℤ) (moved : List ℕ) (n : ℕ) → IsWorld w b ls ts → Answered w after f r (roomIn lent)
+    → Due w b ls ts f (roomIn lent) moved n
+    → ((v : World) → IsWorld v b ls ts → out ≡ numbersAfter (listTo (λ i. recordOf v (supplierOf (v .opening) (getD moved i 0)) (elementOf (v .opening) (getD moved i 0))) n) lent)
+    → Replied w after f r lent out
+replied-with w after b ls ts f r lent out moved n h a d p =
+    record {
+      number = a .number;
+      world = a .world;
+      list = p w h ∙ ap (λ rs. numbersAfter rs lent) (sym (d .records));
+      count = a .count;
+    }

@@ -15,14 +15,14 @@ ghost use Rattle.ledger.specs.Added.{addedLines, Changes};
 ghost use Rattle.writing.specs.Recorded.{Countable};
 ghost use Rattle.rules.proofs.Parts.{Whole};
 ghost use Rattle.rounds.specs.Moved.{IsWorld, Settled};
-ghost use Rattle.settlement.specs.Replies.{Appliable, Applied, withRound, Sending, Replied};
+ghost use Rattle.settlement.specs.Replies.{Appliable, Applied, withRound, Sending, Answered, Due, Replied};
 use book::check_book;
-use messages::number;
 use intake::Understood;
 use intake::understand;
 use ledger::commit_lines;
 use ledger::lines_fit;
 use messages::decide;
+use messages::number;
 use posting::post;
 use rounds::copy_lines;
 use rounds::moved_lines;
@@ -154,15 +154,14 @@ fn with_round(book: Book, round: u64) -> Book
     next
 }
 
-// Message 8: question 18, then the records, what is sent and the kind of the next round. Linear in the lines.
-fn send(book: Book, lines: &[i64], sent: &mut [i64], records: &mut [i64]) -> Reply
+// Message 8: question 18 of the room for records, then what is sent and the kind of the next round. Linear in the lines.
+fn send(book: Book, lines: &[i64], sent: &mut [i64], room: usize) -> Reply
     requires { ⌜ Settled book (now lines) (now sent) × (1 ≤ book .round) × (book .round ≤ 3) ⌝ }
-    ensures { λ r. ⌜ ((w : World) → IsWorld w book (now (lines .entry)) (now (sent .entry)) → Sending w book r (now (sent .exit)) (now (records .entry)) (now (records .exit))) ⌝ }
+    ensures { λ r. ⌜ ((w : World) → IsWorld w book (now (lines .entry)) (now (sent .entry)) → Sending w book r (now (sent .exit)) room) ⌝ }
 {
     let mut moved = [0u64; 1024];
     let count = moved_lines(book, lines, sent, &mut moved);
-    if count <= records.len() / 6 {
-        put_records(book, lines, sent, &moved, count, records);
+    if count <= room {
         copy_lines(lines, sent);
         accepted(with_round(book, next_round(book.round)), count)
     } else {
@@ -204,8 +203,9 @@ fn is_round(body: Body) -> bool
     }
 }
 
-// A message of a book that is well formed, and stays so: questions 6 to 18. Cost: as for `apply` and `send`.
-pub fn message_within(
+// A message of a book that is well formed, and stays so, with room for so many records: questions 6 to 18, and all that is written but the
+// records. Cost: as for `apply` and `send`.
+pub fn take_within(
     book: Book,
     element_data: &[u8],
     prices: &[i64],
@@ -216,11 +216,11 @@ pub fn message_within(
     blocks: &mut [u8],
     lines: &mut [i64],
     sent: &mut [i64],
-    records: &mut [i64],
+    room: usize,
     fields: Fields,
 ) -> Reply
     requires { ⌜ Whole (worldOf book (now element_data) (now prices) (now links) (now holders) (now states) (now readings) (now blocks) (now lines) (now sent)) ⌝ }
-    ensures { λ r. ⌜ Replied (worldOf book (now (element_data .entry)) (now (prices .entry)) (now (links .entry)) (now (holders .entry)) (now (states .entry)) (now (readings .entry)) (now (blocks .entry)) (now (lines .entry)) (now (sent .entry))) (worldOf (r .book) (now (element_data .entry)) (now (prices .entry)) (now (links .exit)) (now (holders .exit)) (now (states .exit)) (now (readings .exit)) (now (blocks .exit)) (now (lines .exit)) (now (sent .exit))) fields r (now (records .entry)) (now (records .exit)) × Whole (worldOf (r .book) (now (element_data .entry)) (now (prices .entry)) (now (links .exit)) (now (holders .exit)) (now (states .exit)) (now (readings .exit)) (now (blocks .exit)) (now (lines .exit)) (now (sent .exit))) ⌝ }
+    ensures { λ r. ⌜ Answered (worldOf book (now (element_data .entry)) (now (prices .entry)) (now (links .entry)) (now (holders .entry)) (now (states .entry)) (now (readings .entry)) (now (blocks .entry)) (now (lines .entry)) (now (sent .entry))) (worldOf (r .book) (now (element_data .entry)) (now (prices .entry)) (now (links .exit)) (now (holders .exit)) (now (states .exit)) (now (readings .exit)) (now (blocks .exit)) (now (lines .exit)) (now (sent .exit))) fields r room × Whole (worldOf (r .book) (now (element_data .entry)) (now (prices .entry)) (now (links .exit)) (now (holders .exit)) (now (states .exit)) (now (readings .exit)) (now (blocks .exit)) (now (lines .exit)) (now (sent .exit))) ⌝ }
 {
     let understood = understand(book.suppliers, fields);
     let Understood::Passed(m) = understood else {
@@ -240,7 +240,7 @@ pub fn message_within(
     if number(decision) == 0 {
         let body = m.body;
         if is_round(body) {
-            send(book, lines, sent, records)
+            send(book, lines, sent, room)
         } else {
             apply(
                 book,
@@ -260,8 +260,212 @@ pub fn message_within(
     }
 }
 
-// A message of any book and any tables: questions 2 to 18. The list holds a sixth of its numbers of records. A refusal leaves book, tables and
-// list as they were.
+// The same of any book and any tables: questions 2 to 18.
+pub fn take(
+    book: Book,
+    element_data: &[u8],
+    prices: &[i64],
+    links: &mut [u64],
+    holders: &mut [u64],
+    states: &mut [u64],
+    readings: &mut [u32],
+    blocks: &mut [u8],
+    lines: &mut [i64],
+    sent: &mut [i64],
+    room: usize,
+    fields: Fields,
+) -> Reply
+    ensures { λ r. ⌜ Answered (worldOf book (now (element_data .entry)) (now (prices .entry)) (now (links .entry)) (now (holders .entry)) (now (states .entry)) (now (readings .entry)) (now (blocks .entry)) (now (lines .entry)) (now (sent .entry))) (worldOf (r .book) (now (element_data .entry)) (now (prices .entry)) (now (links .exit)) (now (holders .exit)) (now (states .exit)) (now (readings .exit)) (now (blocks .exit)) (now (lines .exit)) (now (sent .exit))) fields r room ⌝ }
+{
+    let checked = check_book(
+        book,
+        element_data,
+        prices,
+        links,
+        holders,
+        states,
+        readings,
+        blocks,
+        lines,
+        sent,
+    );
+    if number(checked) == 0 {
+        take_within(
+            book,
+            element_data,
+            prices,
+            links,
+            holders,
+            states,
+            readings,
+            blocks,
+            lines,
+            sent,
+            room,
+            fields,
+        )
+    } else {
+        refused(checked, book)
+    }
+}
+
+// ---- the records that a message will write, before anything is written
+
+// The numbers of their lines at the front of `moved`, and how many there are: 0 unless the message is a round that will be accepted.
+// Cost: linear in the lines for a round, else constant.
+pub fn due_within(
+    book: Book,
+    element_data: &[u8],
+    prices: &[i64],
+    links: &[u64],
+    holders: &[u64],
+    states: &[u64],
+    readings: &[u32],
+    blocks: &[u8],
+    lines: &[i64],
+    sent: &[i64],
+    room: usize,
+    fields: Fields,
+    moved: &mut [u64],
+) -> usize
+    requires { ⌜ Whole (worldOf book (now element_data) (now prices) (now links) (now holders) (now states) (now readings) (now blocks) (now lines) (now sent)) × (1024 ≤ length (now moved)) ⌝ }
+    ensures { λ n. ⌜ Due (worldOf book (now (element_data .entry)) (now (prices .entry)) (now (links .entry)) (now (holders .entry)) (now (states .entry)) (now (readings .entry)) (now (blocks .entry)) (now (lines .entry)) (now (sent .entry))) book (now (lines .entry)) (now (sent .entry)) fields room (now (moved .exit)) n ⌝ }
+{
+    let understood = understand(book.suppliers, fields);
+    let Understood::Passed(m) = understood else {
+        return 0;
+    };
+    let body = m.body;
+    if is_round(body) {
+        let decision = decide(
+            book,
+            element_data,
+            prices,
+            links,
+            holders,
+            states,
+            readings,
+            blocks,
+            m,
+        );
+        if number(decision) == 0 {
+            let count = moved_lines(book, lines, sent, moved);
+            if count <= room { count } else { 0 }
+        } else {
+            0
+        }
+    } else {
+        0
+    }
+}
+
+// The same of any book and any tables.
+pub fn due(
+    book: Book,
+    element_data: &[u8],
+    prices: &[i64],
+    links: &[u64],
+    holders: &[u64],
+    states: &[u64],
+    readings: &[u32],
+    blocks: &[u8],
+    lines: &[i64],
+    sent: &[i64],
+    room: usize,
+    fields: Fields,
+    moved: &mut [u64],
+) -> usize
+    requires { ⌜ 1024 ≤ length (now moved) ⌝ }
+    ensures { λ n. ⌜ Due (worldOf book (now (element_data .entry)) (now (prices .entry)) (now (links .entry)) (now (holders .entry)) (now (states .entry)) (now (readings .entry)) (now (blocks .entry)) (now (lines .entry)) (now (sent .entry))) book (now (lines .entry)) (now (sent .entry)) fields room (now (moved .exit)) n ⌝ }
+{
+    let checked = check_book(
+        book,
+        element_data,
+        prices,
+        links,
+        holders,
+        states,
+        readings,
+        blocks,
+        lines,
+        sent,
+    );
+    if number(checked) == 0 {
+        due_within(
+            book,
+            element_data,
+            prices,
+            links,
+            holders,
+            states,
+            readings,
+            blocks,
+            lines,
+            sent,
+            room,
+            fields,
+            moved,
+        )
+    } else {
+        0
+    }
+}
+
+// ---- the entry points that are lent a list of records as numbers, six a record
+
+// A message of a book that is well formed, and stays so. Cost: as for `take_within`.
+pub fn message_within(
+    book: Book,
+    element_data: &[u8],
+    prices: &[i64],
+    links: &mut [u64],
+    holders: &mut [u64],
+    states: &mut [u64],
+    readings: &mut [u32],
+    blocks: &mut [u8],
+    lines: &mut [i64],
+    sent: &mut [i64],
+    records: &mut [i64],
+    fields: Fields,
+) -> Reply
+    requires { ⌜ Whole (worldOf book (now element_data) (now prices) (now links) (now holders) (now states) (now readings) (now blocks) (now lines) (now sent)) ⌝ }
+    ensures { λ r. ⌜ Replied (worldOf book (now (element_data .entry)) (now (prices .entry)) (now (links .entry)) (now (holders .entry)) (now (states .entry)) (now (readings .entry)) (now (blocks .entry)) (now (lines .entry)) (now (sent .entry))) (worldOf (r .book) (now (element_data .entry)) (now (prices .entry)) (now (links .exit)) (now (holders .exit)) (now (states .exit)) (now (readings .exit)) (now (blocks .exit)) (now (lines .exit)) (now (sent .exit))) fields r (now (records .entry)) (now (records .exit)) × Whole (worldOf (r .book) (now (element_data .entry)) (now (prices .entry)) (now (links .exit)) (now (holders .exit)) (now (states .exit)) (now (readings .exit)) (now (blocks .exit)) (now (lines .exit)) (now (sent .exit))) ⌝ }
+{
+    let room = records.len() / 6;
+    let mut moved = [0u64; 1024];
+    let count = due_within(
+        book,
+        element_data,
+        prices,
+        links,
+        holders,
+        states,
+        readings,
+        blocks,
+        lines,
+        sent,
+        room,
+        fields,
+        &mut moved,
+    );
+    put_records(book, lines, sent, &moved, count, records);
+    take_within(
+        book,
+        element_data,
+        prices,
+        links,
+        holders,
+        states,
+        readings,
+        blocks,
+        lines,
+        sent,
+        room,
+        fields,
+    )
+}
+
+// A message of any book and any tables: questions 2 to 18. A refusal leaves book, tables and list as they were.
 pub fn message(
     book: Book,
     element_data: &[u8],
@@ -278,7 +482,9 @@ pub fn message(
 ) -> Reply
     ensures { λ r. ⌜ Replied (worldOf book (now (element_data .entry)) (now (prices .entry)) (now (links .entry)) (now (holders .entry)) (now (states .entry)) (now (readings .entry)) (now (blocks .entry)) (now (lines .entry)) (now (sent .entry))) (worldOf (r .book) (now (element_data .entry)) (now (prices .entry)) (now (links .exit)) (now (holders .exit)) (now (states .exit)) (now (readings .exit)) (now (blocks .exit)) (now (lines .exit)) (now (sent .exit))) fields r (now (records .entry)) (now (records .exit)) ⌝ }
 {
-    let checked = check_book(
+    let room = records.len() / 6;
+    let mut moved = [0u64; 1024];
+    let count = due(
         book,
         element_data,
         prices,
@@ -289,23 +495,23 @@ pub fn message(
         blocks,
         lines,
         sent,
+        room,
+        fields,
+        &mut moved,
     );
-    if number(checked) == 0 {
-        message_within(
-            book,
-            element_data,
-            prices,
-            links,
-            holders,
-            states,
-            readings,
-            blocks,
-            lines,
-            sent,
-            records,
-            fields,
-        )
-    } else {
-        refused(checked, book)
-    }
+    put_records(book, lines, sent, &moved, count, records);
+    take(
+        book,
+        element_data,
+        prices,
+        links,
+        holders,
+        states,
+        readings,
+        blocks,
+        lines,
+        sent,
+        room,
+        fields,
+    )
 }

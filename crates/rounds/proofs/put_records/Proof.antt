@@ -7,7 +7,6 @@ use Rattle.rules.specs.World.{World}
 use Rattle.rules.specs.Effects.{supplierOf, elementOf, recordOf}
 use Rattle.rounds.specs.Moved.{IsWorld}
 use Rattle.rounds.specs.RecordNumbers.{numbersAfter, numbers-none, numbers-step}
-
 use native.Mathlib.Omega.{arith}
 use borrow.Author.Needs.{needs}
 use Rattle.rounds.proofs.put_records.Statement.{statement}
@@ -38,7 +37,10 @@ shared-slice-read-record-of : tie.Need-shared-slice-read-record-of Inv-loop μ-l
 shared-slice-read-record-of c = search needs
 
 record-of-requires : tie.Need-record-of-requires Inv-loop μ-loop
-record-of-requires c κs = (c .before .before .before .before .before .pre .0 .0, c .before .before .before .before .before .pre .1 .2 _ (c .before .before .loop-test .taken), c .before .before .before .before .before .pre .0 .1)
+record-of-requires c κs =
+    let t = c .before .before .loop-test .taken in
+    let g = c .before .before .before .before .before .pre .0 (omega arith) in
+    (g .0, c .before .before .before .before .before .pre .1 .2 _ t, g .1)
 
 put-record-requires : tie.Need-put-record-requires Inv-loop μ-loop
 put-record-requires c κs = (c .record-of .ensures .0, omega (arith, c .before .before .before .before .loop .inv .1, c .before .before .before .before .before .before .pre .1 .1, c .before .before .before .loop-test .taken))

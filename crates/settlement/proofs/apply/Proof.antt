@@ -113,11 +113,12 @@ returns c =
     let g = c .before .before .before .before .before .before .before .before .before .before .before .before .before .before .before .before .before .before .before .before .before .before .before .before .before .before .before .before .before .before .before .before .before .before .before .before .before .before .before .before .before .before .before .before .before .before .before .pre in
     let o = openingOf (a .book) (a .element-data .now) (a .prices .now) in
     let t = tablesOf (a .book) (a .links .now) (a .holders .now) (a .states .now) (a .readings .now) (a .blocks .now) in
-    let e = c .accepted .ensures in
-    (λ ts.
-    let q = fits-is (a .book) (a .element-data .now) (a .prices .now) (a .links .now) (a .holders .now) (a .states .now) (a .readings .now) (a .blocks .now) (a .lines .now) ts (a .body) g _ _ (c .before .before .before .before .before .before .before .before .before .before .before .before .before .before .before .before .before .before .before .before .before .before .before .before .before .before .before .before .before .before .before .before .before .post .ensures) _ (c .before .before .before .before .before .before .before .before .before .before .before .before .before .before .before .before .before .before .before .before .before .before .before .before .is-fitting .ensures (a .element-data .now) (a .prices .now) (a .readings .now) (a .blocks .now)) ∙ c .before .before .before .before .before .before .before .before .before .before .before .before .before .before .before .before .before .before .before .before .before .before .before .if1 .taken in
-    rw (e .0, e .1) (applied (a .book) (a .element-data .now) (a .prices .now) (a .links .now) (a .holders .now) (a .states .now) (a .readings .now) (a .blocks .now) (a .lines .now) ts (a .body) g _ _ (c .before .before .before .before .before .before .before .before .before .before .before .before .before .before .before .before .before .before .before .before .before .before .before .before .before .before .before .before .before .before .before .before .before .post .ensures) q _ _ _ _ _ _ (c .before .before .before .before .before .before .before .before .before .before .before .before .before .before .before .before .before .write-tables .ensures (a .prices .now)) _ (c .before .before .commit-lines .ensures)),
-    e .2)
+    let e = c .accepted .ensures in (
+      λ ts.
+          let q = fits-is (a .book) (a .element-data .now) (a .prices .now) (a .links .now) (a .holders .now) (a .states .now) (a .readings .now) (a .blocks .now) (a .lines .now) ts (a .body) g _ _ (c .before .before .before .before .before .before .before .before .before .before .before .before .before .before .before .before .before .before .before .before .before .before .before .before .before .before .before .before .before .before .before .before .before .post .ensures) _ (c .before .before .before .before .before .before .before .before .before .before .before .before .before .before .before .before .before .before .before .before .before .before .before .before .is-fitting .ensures (a .element-data .now) (a .prices .now) (a .readings .now) (a .blocks .now)) ∙ c .before .before .before .before .before .before .before .before .before .before .before .before .before .before .before .before .before .before .before .before .before .before .before .if1 .taken in
+          rw (e .0, e .1) (applied (a .book) (a .element-data .now) (a .prices .now) (a .links .now) (a .holders .now) (a .states .now) (a .readings .now) (a .blocks .now) (a .lines .now) ts (a .body) g _ _ (c .before .before .before .before .before .before .before .before .before .before .before .before .before .before .before .before .before .before .before .before .before .before .before .before .before .before .before .before .before .before .before .before .before .post .ensures) q _ _ _ _ _ _ (c .before .before .before .before .before .before .before .before .before .before .before .before .before .before .before .before .before .write-tables .ensures (a .prices .now)) _ (c .before .before .commit-lines .ensures)),
+      e .2,
+    )
 
 same-length-7 : tie.Need-same-length-7
 same-length-7 c = search needs
@@ -144,11 +145,12 @@ returns-2 c =
     let g = c .before .before .before .before .before .before .before .before .before .before .before .before .before .before .before .before .before .before .before .before .before .before .before .before .before .pre in
     let o = openingOf (a .book) (a .element-data .now) (a .prices .now) in
     let t = tablesOf (a .book) (a .links .now) (a .holders .now) (a .states .now) (a .readings .now) (a .blocks .now) in
-    let e = c .refused .ensures in
-    (λ ts.
-    let q = fits-is (a .book) (a .element-data .now) (a .prices .now) (a .links .now) (a .holders .now) (a .states .now) (a .readings .now) (a .blocks .now) (a .lines .now) ts (a .body) g _ _ (c .before .before .before .before .before .before .before .before .before .before .before .post .ensures) _ (c .before .before .is-fitting .ensures (a .element-data .now) (a .prices .now) (a .readings .now) (a .blocks .now)) ∙ c .before .if1 .left in
-    rw (e .0, e .1) (applied-not _ (a .body) q),
-    e .2)
+    let e = c .refused .ensures in (
+      λ ts.
+          let q = fits-is (a .book) (a .element-data .now) (a .prices .now) (a .links .now) (a .holders .now) (a .states .now) (a .readings .now) (a .blocks .now) (a .lines .now) ts (a .body) g _ _ (c .before .before .before .before .before .before .before .before .before .before .before .post .ensures) _ (c .before .before .is-fitting .ensures (a .element-data .now) (a .prices .now) (a .readings .now) (a .blocks .now)) ∙ c .before .if1 .left in
+          rw (e .0, e .1) (applied-not _ (a .body) q),
+      e .2,
+    )
 
 pub apply-spec : {M : Type 1} → statement M
 apply-spec =

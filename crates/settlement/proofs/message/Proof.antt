@@ -1,36 +1,37 @@
--- Questions 2 to 5 of what is lent, then the message of a book that is well formed.
-use mathlib.Core.Path.{sym, ap, _∙_}
-use mathlib.Core.Logic.{_≢_}
+-- The records that are due are put into the list before anything is written; the rest is the message with so much room.
 use Rattle.rules.specs.World.{worldOf}
-use Rattle.rules.specs.Effects.{askBook}
-use Rattle.rules.specs.Answers.{numberOf}
-use Rattle.book.proofs.Passes.{book-whole}
-use Rattle.settlement.proofs.Stepping.{replied-refused, answer-book}
+use Rattle.rounds.proofs.Sending.{world-of}
+use Rattle.settlement.proofs.Stepping.{replied-with}
 use native.Mathlib.Omega.{arith}
 use borrow.Author.Needs.{needs}
 use Rattle.settlement.proofs.message.Statement.{statement}
 use Rattle.settlement.proofs.message.Tie as tie
 use Rattle.settlement.proofs.message.Reads as reads
 use Rattle.settlement.proofs.message.Lts as lts
-use Rattle.book.proofs.check_book.Reads as check-book-reads
-use Rattle.messages.proofs.number.Reads as number-reads
-use Rattle.settlement.proofs.message_within.Reads as message-within-reads
-use Rattle.settlement.proofs.refused.Reads as refused-reads
+use Rattle.rounds.proofs.put_records.Reads as put-records-reads
+use Rattle.settlement.proofs.due.Reads as due-reads
+use Rattle.settlement.proofs.take.Reads as take-reads
 
-check-book-requires : tie.Need-check-book-requires
-check-book-requires c κs = search needs
+slice-aggregate-due : tie.Need-slice-aggregate-due
+slice-aggregate-due c = search needs
 
-number-requires : tie.Need-number-requires
-number-requires c κs = search needs
+due-requires : tie.Need-due-requires
+due-requires c κs = search needs
 
-message-within-requires : tie.Need-message-within-requires
-message-within-requires c κs =
-    let a = c .before .before .before .before .before .before .before .before .before .before .before .before .before .before .before .before .before .before .before .before .before .before .before .before .args in
+slice-aggregate-put-records : tie.Need-slice-aggregate-put-records
+slice-aggregate-put-records c = search needs
+
+put-records-requires : tie.Need-put-records-requires
+put-records-requires c κs =
+    let a = c .before .before .before .before .before .before .before .before .before .before .before .before .before .before .before .before .before .before .before .before .args in
     let w = worldOf (a .book) (a .element-data .now) (a .prices .now) (a .links .now) (a .holders .now) (a .states .now) (a .readings .now) (a .blocks .now) (a .lines .now) (a .sent .now) in
-    book-whole w (sym (c .before .before .before .before .before .before .before .before .before .before .check-book .ensures) ∙ sym (c .before .before .before .before .before .before .before .before .before .number .ensures) ∙ c .before .before .before .before .before .before .before .before .if1 .taken)
+    let d = c .before .before .before .before .before .due .ensures in
+    let k = c .before .before .before .before .before .due .kept .1 .1 .1 .1 .1 .1 .1 .1 .1 .1 .1 .1 .0 in
+    let l = d .few in
+    (d .settled, (omega (arith, d .listed, k), omega (arith, l), d .below))
 
-refused-requires : tie.Need-refused-requires
-refused-requires c κs = search needs
+take-requires : tie.Need-take-requires
+take-requires c κs = search needs
 
 same-length : tie.Need-same-length
 same-length c = search needs
@@ -57,45 +58,20 @@ same-length-8 : tie.Need-same-length-8
 same-length-8 c = search needs
 
 returns : tie.Need-returns
-returns c = c .before .before .before .before .before .before .before .before .before .before .before .before .before .message-within .ensures .0
-
-same-length-9 : tie.Need-same-length-9
-same-length-9 c = search needs
-
-same-length-10 : tie.Need-same-length-10
-same-length-10 c = search needs
-
-same-length-11 : tie.Need-same-length-11
-same-length-11 c = search needs
-
-same-length-12 : tie.Need-same-length-12
-same-length-12 c = search needs
-
-same-length-13 : tie.Need-same-length-13
-same-length-13 c = search needs
-
-same-length-14 : tie.Need-same-length-14
-same-length-14 c = search needs
-
-same-length-15 : tie.Need-same-length-15
-same-length-15 c = search needs
-
-returns-2 : tie.Need-returns-2
-returns-2 c =
-    let a = c .before .before .before .before .before .before .before .before .before .before .before .before .before .before .before .before .before .args in
+returns c =
+    let a = c .before .before .before .before .before .before .before .before .before .before .before .before .before .before .before .before .before .before .before .before .before .before .before .before .before .before .before .before .before .before .before .before .before .before .before .before .before .before .before .before .before .before .args in
     let w = worldOf (a .book) (a .element-data .now) (a .prices .now) (a .links .now) (a .holders .now) (a .states .now) (a .readings .now) (a .blocks .now) (a .lines .now) (a .sent .now) in
-    let e = c .refused .ensures in
-    let n : askBook w 0 ≢ 0 = λ z. c .before .if1 .left (c .before .before .number .ensures ∙ c .before .before .before .check-book .ensures ∙ z) in
-    rw (e .1) (replied-refused w (a .fields) (a .records .now) _ _ (answer-book w (a .fields) _ n) n (ap numberOf (e .0) ∙ c .before .before .before .check-book .ensures) (e .2))
+    replied-with w _ _ _ _ (a .fields) _ (a .records .now) _ _ _ (world-of (a .book) (a .element-data .now) (a .prices .now) (a .links .now) (a .holders .now) (a .states .now) (a .readings .now) (a .blocks .now) (a .lines .now) (a .sent .now)) (c .before .before .before .before .before .before .before .before .before .before .before .before .take .ensures) (c .before .before .before .before .before .before .before .before .before .before .before .before .before .before .before .before .before .before .before .before .before .before .before .before .before .before .before .due .ensures) (c .before .before .before .before .before .before .before .before .before .before .before .before .before .before .before .before .before .before .before .before .before .put-records .ensures)
 
 pub message-spec : {M : Type 1} → statement M
 message-spec =
     tie.close
     (tie.spec
-    check-book-requires
-    number-requires
-    message-within-requires
-    refused-requires
+    slice-aggregate-due
+    due-requires
+    slice-aggregate-put-records
+    put-records-requires
+    take-requires
     same-length
     same-length-2
     same-length-3
@@ -104,12 +80,4 @@ message-spec =
     same-length-6
     same-length-7
     same-length-8
-    returns
-    same-length-9
-    same-length-10
-    same-length-11
-    same-length-12
-    same-length-13
-    same-length-14
-    same-length-15
-    returns-2)
+    returns)

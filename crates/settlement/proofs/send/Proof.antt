@@ -1,4 +1,4 @@
--- The lines that moved are the rules' records; they are written, sent and counted where the list holds them.
+-- The lines that moved are the rules' records; they are sent and counted where there is room for them.
 use mathlib.Core.Path.{_∙_}
 use borrow.Author.Tests.{le-leb, lt-leb}
 use Rattle.rounds.proofs.Numbers.{few-lines}
@@ -12,7 +12,6 @@ use Rattle.settlement.proofs.send.Lts as lts
 use Rattle.rounds.proofs.copy_lines.Reads as copy-lines-reads
 use Rattle.rounds.proofs.moved_lines.Reads as moved-lines-reads
 use Rattle.rounds.proofs.next_round.Reads as next-round-reads
-use Rattle.rounds.proofs.put_records.Reads as put-records-reads
 use Rattle.settlement.proofs.accepted.Reads as accepted-reads
 use Rattle.settlement.proofs.refused.Reads as refused-reads
 use Rattle.settlement.proofs.with_round.Reads as with-round-reads
@@ -25,18 +24,6 @@ moved-lines-requires c κs =
     let b = c .before .before .args .book in
     let g = c .before .before .pre .0 in
     (g, few-lines (b .suppliers) (b .elements) (g .suppliers) (g .elements))
-
-slice-aggregate-put-records : tie.Need-slice-aggregate-put-records
-slice-aggregate-put-records c = search needs
-
-put-records-requires : tie.Need-put-records-requires
-put-records-requires c κs =
-    let b = c .before .before .before .before .before .before .before .before .args .book in
-    let g = c .before .before .before .before .before .before .before .before .pre .0 in
-    let m = c .before .before .before .before .before .moved-lines .ensures in
-    let f = few-lines (b .suppliers) (b .elements) (g .suppliers) (g .elements) in
-    let k = c .before .before .before .before .before .moved-lines .kept .1 .1 .1 .0 in
-    ((g, c .before .before .before .before .before .before .before .before .pre .2), (omega (arith, m .few, f, k), omega (arith, c .before .before .before .if1 .taken), m .below))
 
 copy-lines-requires : tie.Need-copy-lines-requires
 copy-lines-requires c κs = search needs
@@ -56,16 +43,13 @@ refused-requires c κs = search needs
 same-length : tie.Need-same-length
 same-length c = search needs
 
-same-length-2 : tie.Need-same-length-2
-same-length-2 c = search needs
-
 returns : tie.Need-returns
 returns c =
     λ w h.
-    sent-records w _ _ _ h _ _ _ (c .before .before .before .before .before .before .before .before .before .before .before .before .before .moved-lines .ensures) _ (le-leb _ _ (c .before .before .before .before .before .before .before .before .before .before .before .if1 .taken)) _ (c .accepted .ensures .0) _ (c .before .before .next-round .ensures) (c .accepted .ensures .1 ∙ c .before .with-round .ensures) (c .accepted .ensures .2) _ (c .before .before .before .before .copy-lines .ensures) _ (c .before .before .before .before .before .before .before .put-records .ensures w h)
+    sent-records w _ _ _ h _ _ _ (c .before .before .before .before .before .before .before .before .moved-lines .ensures) _ (le-leb _ _ (c .before .before .before .before .before .before .if1 .taken)) _ (c .accepted .ensures .0) _ (c .before .before .next-round .ensures) (c .accepted .ensures .1 ∙ c .before .with-round .ensures) (c .accepted .ensures .2) _ (c .before .before .before .before .copy-lines .ensures)
 
-same-length-3 : tie.Need-same-length-3
-same-length-3 c = search needs
+same-length-2 : tie.Need-same-length-2
+same-length-2 c = search needs
 
 returns-2 : tie.Need-returns-2
 returns-2 c =
@@ -79,15 +63,12 @@ send-spec =
     (tie.spec
     slice-aggregate-moved-lines
     moved-lines-requires
-    slice-aggregate-put-records
-    put-records-requires
     copy-lines-requires
     next-round-requires
     with-round-requires
     accepted-requires
     refused-requires
     same-length
-    same-length-2
     returns
-    same-length-3
+    same-length-2
     returns-2)
