@@ -8,7 +8,5 @@ mod book;
 mod calendar;
 pub mod file;
 
-pub use book::{
-    Book, Counts, Element, Line, MOST_POINTS, Month, Period, Record, message, open,
-};
+pub use book::{Book, Counts, Element, Line, MOST_POINTS, Month, Period, Record, message, open};
 pub use calendar::{DAY_COUNT, days_in_month, first_day_of_month};

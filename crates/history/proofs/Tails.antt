@@ -1,7 +1,7 @@
 -- The tail of a list that was lent on: what is lent, and what it leaves of the whole when it comes back.
-use Prim.Native.Nat.{ℕ, _+_, _-_, _≤_}
-use mathlib.Core.Path.{_≡_, ap, _∙_}
-use mathlib.Core.List.{List, _++_, append-nil}
+use Prim.Native.Nat.{ℕ, _-_, _≤_}
+use mathlib.Core.Path.{_≡_, _∙_}
+use mathlib.Core.List.{List, append-nil}
 use lib.ListN.{length, take, drop, length-drop}
 use lib.Seq.{length-take-le, take-all, drop-at, drop-length}
 use native.Mathlib.Omega.{arith}

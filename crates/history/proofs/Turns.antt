@@ -1,14 +1,12 @@
 -- One message more: the rules' run goes on by one event, the records by those of the message, the answers by its answer. A message never writes more
 -- records than it has room for, so the places left are those at the start less the records so far.
-use Prim.Native.Nat.{ℕ, zero, suc, _+_, _-_, _*_, _/_, _≤_, _<_}
+use Prim.Native.Nat.{ℕ, suc, _+_, _-_, _*_, _/_, _≤_, _<_}
 use mathlib.Core.Path.{_≡_, refl, sym, ap, ap₂, subst, _∙_}
-use mathlib.Core.Bool.{true, false}
 use mathlib.Core.List.{List, [], _∷_, _++_, append-assoc}
 use mathlib.Core.Option.{Option, none, some}
 use lib.IntN.{ℤ}
 use lib.ListN.{length, take, drop, set, replicate, length-append, length-drop, length-replicate, take-append-drop}
 use lib.Seq.{drop-cons, drop-drop, take-at, drop-at, set-at}
-use lib.Dec.{leb}
 use borrow.Author.Tests.{leb-true}
 use native.Mathlib.Omega.{arith}
 use native.Mathlib.Numerals.{add-one}
@@ -20,7 +18,7 @@ use Rattle.rules.specs.Basics.{listTo}
 use Rattle.rules.specs.World.{World}
 use Rattle.rules.specs.Effects.{written, question17, question18, answer, accepted, step, writtenBy, recordsOf}
 use Rattle.rules.specs.Claim.{Event, History, advance, advanceAll, begin}
-use Rattle.rules.proofs.Passed.{asked-passed, Behind, behind, Taken, taken}
+use Rattle.rules.proofs.Passed.{asked-passed, behind, taken}
 use Rattle.rules.proofs.Ranges.{length-listTo}
 use Rattle.rounds.specs.RecordNumbers.{numbersOf, numbersAfter, sixOf, length-numbers, length-after, numbers-none}
 use Rattle.settlement.specs.declared.Reply.{Reply}
@@ -63,7 +61,7 @@ module _ (h : History) (f : Fields) (room : ℕ) where
 
 -- ---- the places that the records of a list of messages have left
 
-unfoldable left : World → List Fields → ℕ → ℕ
+unfoldable pub left : World → List Fields → ℕ → ℕ
 left w [] room = room
 left w (f ∷ fs) room = left (step w f room) fs (room - length (recordsOf w f room))
 
@@ -82,7 +80,7 @@ left-is h (f ∷ fs) room =
 
 -- ---- one event more
 
-events-more : (w : World) (fs : List Fields) (f : Fields) (room : ℕ) → eventsFrom w (fs ++ (f ∷ [])) room ≡ eventsFrom w fs room ++ (lentWith f (left w fs room) ∷ [])
+pub events-more : (w : World) (fs : List Fields) (f : Fields) (room : ℕ) → eventsFrom w (fs ++ (f ∷ [])) room ≡ eventsFrom w fs room ++ (lentWith f (left w fs room) ∷ [])
 unfolding eventsFrom left
 events-more w [] f room = refl
 events-more w (g ∷ fs) f room = ap (λ (vs : List Event). lentWith g room ∷ vs) (events-more (step w g room) fs f _)
@@ -92,13 +90,13 @@ unfolding advanceAll
 advance-more h [] v = refl
 advance-more h (u ∷ us) v = advance-more (advance h u) us v
 
-answers-more : (h : History) (vs : List Event) (v : Event)
+pub answers-more : (h : History) (vs : List Event) (v : Event)
     → answersTo (h .world) (vs ++ (v ∷ [])) ≡ answersTo (h .world) vs ++ (answer (advanceAll h vs .world) (v .fields) (length (v .lent)) ∷ [])
 unfolding answersTo advanceAll advance
 answers-more h [] v = refl
 answers-more h (u ∷ us) v = ap (λ (l : List ℕ). answer (h .world) (u .fields) (length (u .lent)) ∷ l) (answers-more (advance h u) us v)
 
-length-answers : (w : World) (fs : List Fields) (room : ℕ) (u : World) → length (answersTo u (eventsFrom w fs room)) ≡ length fs
+pub length-answers : (w : World) (fs : List Fields) (room : ℕ) (u : World) → length (answersTo u (eventsFrom w fs room)) ≡ length fs
 unfolding answersTo eventsFrom
 length-answers w [] room u = refl
 length-answers w (f ∷ fs) room u = ap suc (length-answers (step w f room) fs _ _)
@@ -162,6 +160,15 @@ module _ (w mid : World) (fs : List Fields) (count : ℕ) (lent list : List ℤ)
       omega arith
 
   module _ (after : World) (f : Fields) (r : Reply) (out : List ℤ) (q : Replied mid after f r (drop (count * 6) list) (drop (count * 6) out)) where
+    -- the records of one message more fit too
+    pub next-fits : count + r .records ≤ length lent / 6
+    next-fits =
+        let k = records-fit mid f (roomIn (drop (count * 6) list)) in
+        let n = q .count in
+        let e = left-here in
+        let l = room-left in
+        omega arith
+
     abbrev h : History
     h = runFrom w fs (roomIn lent)
 

@@ -1,2 +1,3 @@
--- The run of a list of messages, and what a function that takes the list promises.
+-- The run of a list of messages, what a function that takes the list promises, and what that is worth from an opened book.
 pub mod Runs
+pub mod FromOpening

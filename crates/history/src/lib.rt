@@ -8,8 +8,8 @@ ghost use Rattle.history.specs.Runs.{fieldsOf, messagesOf, Followed};
 use messages::number;
 use rules::Book;
 use rules::Fields;
-use settlement::message;
 use settlement::Reply;
+use settlement::message;
 
 // What a run leaves: the book, and how many records stand at the front of the list.
 pub struct Ran {

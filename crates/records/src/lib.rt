@@ -36,7 +36,7 @@ pub fn put_list(
     moved: &[u64],
     count: usize,
 )
-    requires { ⌜ Settled book (now lines) (now sent) × (book .round ≤ 3) × (count ≤ length (now moved)) × (count ≤ length (now list)) × ((i : ℕ) → i < count → getD (now moved) i 0 < linesIn book) ⌝ }
+    requires { ⌜ (0 < count → Settled book (now lines) (now sent) × (book .round ≤ 3)) × (count ≤ length (now moved)) × (count ≤ length (now list)) × ((i : ℕ) → i < count → getD (now moved) i 0 < linesIn book) ⌝ }
     ensures { λ _. ⌜ ((w : World) → IsWorld w book (now (lines .entry)) (now (sent .entry)) → now (list .exit) ≡ listTo (λ i. recordOf w (supplierOf (w .opening) (getD (now (moved .entry)) i 0)) (elementOf (w .opening) (getD (now (moved .entry)) i 0))) count ++ drop count (now (list .entry))) ⌝ }
 {
     let mut i = 0;

@@ -1,2 +1,4 @@
 -- Laws of the definitions, each file above what it cites.
 pub mod StageLaws
+pub mod PartLaws
+pub mod OpenLaws

@@ -37,7 +37,7 @@ messages-behind : (bytes : List ℕ) (next : ℕ) (w : World) (number : ℕ) →
     → messagesFrom (length bytes) (drop next bytes) w number ≡ messagesFrom (suc (length (drop next bytes))) (drop next bytes) w number
 messages-behind bytes next w number a b = messages-enough (length bytes) (suc (length (drop next bytes))) (drop next bytes) w number (shorter bytes next a b) (one-more (length (drop next bytes)))
 
-never : {P : Type 0} → _≡_ {A = Bool} true false → P
+pub never : {P : Type 0} → _≡_ {A = Bool} true false → P
 never z = let y : _≡_ {A = ℕ} 0 1 = cc in absurd (omega arith)
 
 behind : (text : List ℕ) → text ≡ text ++ []

@@ -1,11 +1,9 @@
-use native.Mathlib.Omega.{arith}
+-- `history::fields_at` meets its contract: the nine places lie within the list, since whole messages are counted by nine.
 use Rattle.history.specs.Runs.{fieldsOf}
 use mathlib.Core.Path.{refl}
 use borrow.Author.Needs.{needs}
 use Rattle.history.proofs.fields_at.Statement.{statement}
 use Rattle.history.proofs.fields_at.Tie as tie
-use Rattle.history.proofs.fields_at.Reads as reads
-use Rattle.history.proofs.fields_at.Lts as lts
 
 mul-at : tie.Need-mul-at
 mul-at c = search needs

@@ -1,3 +1,4 @@
+-- `history::take_one` meets its contract: `message` keeps its promise on the tail of the list, and the front is not lent.
 use native.Mathlib.Omega.{arith}
 use Prim.Native.Nat.{_*_, _≤_}
 use lib.ListN.{length}
@@ -5,9 +6,6 @@ use Rattle.history.proofs.Tails.{tail-lent, tail-back, front-stays}
 use borrow.Author.Needs.{needs}
 use Rattle.history.proofs.take_one.Statement.{statement}
 use Rattle.history.proofs.take_one.Tie as tie
-use Rattle.history.proofs.take_one.Reads as reads
-use Rattle.history.proofs.take_one.Lts as lts
-use Rattle.settlement.proofs.message.Reads as message-reads
 
 mul-at : tie.Need-mul-at
 mul-at c = search needs
@@ -55,7 +53,7 @@ returns : tie.Need-returns
 returns c =
     let a = c .before .before .before .before .before .before .before .before .before .before .before .before .before .before .before .before .before .before .before .before .before .before .before .before .before .before .before .before .args in
     let h : a .count * 6 ≤ length (a .records .now) = let p = c .before .before .before .before .before .before .before .before .before .before .before .before .before .before .before .before .before .before .before .before .before .before .before .before .before .before .before .before .pre in omega arith in
-    (rw (tail-back (a .count * 6) (a .records .now) _ h, ← tail-lent (a .count * 6) (a .records .now)) (c .before .before .before .before .before .before .before .before .before .before .before .before .before .message .ensures), front-stays (a .count * 6) (a .records .now) _ h)
+    (rw (tail-back (a .count * 6) (a .records .now) _ h, ← tail-lent (a .count * 6) (a .records .now)) (c .before .before .before .before .before .before .before .before .before .before .before .before .before .message .ensures), rw (front-stays (a .count * 6) (a .records .now) _ h))
 
 pub take-one-spec : {M : Type 1} → statement M
 take-one-spec =

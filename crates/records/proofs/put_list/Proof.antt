@@ -88,7 +88,7 @@ Asked b ls ts ms i = Settled b ls ts × (b .round ≤ 3) × (i < length ms) × (
 
 -- what the function asks
 abbrev Callable : Book → (ls ts : List ℤ) (ms : List ℕ) → ℕ → List Record → Type 0
-Callable b ls ts ms n ys = Settled b ls ts × (b .round ≤ 3) × (n ≤ length ms) × (n ≤ length ys) × ((i : ℕ) → i < n → getD ms i 0 < linesIn b)
+Callable b ls ts ms n ys = (0 < n → Settled b ls ts × (b .round ≤ 3)) × (n ≤ length ms) × (n ≤ length ys) × ((i : ℕ) → i < n → getD ms i 0 < linesIn b)
 
 -- the bytes before a record of the list can be counted, and a place below n has a next one
 mul-fits : {i n l : ℕ} → l * 48 < 2 ^ 63 → i < n → n ≤ l → i * 48 < 2 ^ 64
@@ -96,6 +96,9 @@ mul-fits room less fits = omega arith
 
 next-fits : {i n : ℕ} → n < 2 ^ 64 → i < n → i + 1 < 2 ^ 64
 next-fits n-fits less = omega arith
+
+some-left : {i n : ℕ} → i < n → 0 < n
+some-left less = omega arith
 
 below : {i n l : ℕ} → i < n → n ≤ l → i < l
 below less fits = omega arith
@@ -192,13 +195,13 @@ module _ {M : Type 1} (𝓤 : URA M) (H : Heap 𝓤) (A : Atoms 𝓤) (W : Given
     n-fits = count-is .1
 
     fits : count ≤ length ys
-    fits = pre .3
+    fits = pre .2
 
     long : (i : ℕ) → i ≤ count → length (w i) ≡ length ys
     long i le = length-front f i ys (le-trans le fits)
 
     ok : (i : ℕ) → i < count → Asked book (lines .now) (sent .now) (moved .now) i
-    ok i less = (pre .0, pre .1, below less (pre .2), pre .4 i less)
+    ok i less = let s = pre .0 (some-left less) in (s .0, s .1, below less (pre .1), pre .3 i less)
 
     exits : (zs : List Record) → zs ≡ w count → length zs ≡ length ys
         → ent 𝓤 (⋆ 𝓤 H A (‵ (fobs γ (codedHoleys R .code (heres R zs))) ∷ ‵ (fbor κ (Held R (length zs) b o γ)) ∷ ‵ (flft κ q) ∷ ‵ Shared ∷ [])) (Post vunit)

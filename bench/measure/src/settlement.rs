@@ -1,0 +1,203 @@
+//! What a settlement is to the measurements, and the timing of one.
+
+use crate::inputs::{Input, MOST_IN_BATCH, Opening};
+use std::hint::black_box;
+use std::time::Instant;
+
+/// One difference that a round sends: kind, supplier, element, quantity, kroner
+/// and billionths.
+pub type Record = (u64, u64, u64, i64, i64, u64);
+
+pub trait Settlement: Sized {
+    /// Opens a book that is known to be right.
+    fn open(opening: &Opening) -> Self;
+
+    /// Takes kind, role, sender, received, point, element, day, hour and value.
+    /// The answer is 0 or the number of the question.
+    fn message(&mut self, fields: &[u64; 9]) -> u64;
+
+    /// The records of the last round. Not timed.
+    fn records(&self) -> Vec<Record>;
+
+    /// Quantity, kroner and billionths.
+    fn line(&self, supplier: u64, element: u64) -> (i64, i64, u64);
+
+    /// How many periods are recorded for a point and an element.
+    fn period_count(&self, point: u64, element: u64) -> u64;
+
+    /// A day on which the point counts but for a missing holder and has a link.
+    fn day_without_holder(&self, point: u64) -> Option<u64>;
+
+    /// Ends the run: a database commits.
+    fn finish(self) {}
+}
+
+/// An implementation by the functions that measure it.
+pub struct Implementation {
+    pub name: &'static str,
+    pub check: fn(&Input) -> Outcome,
+    pub by_kind: fn(&Input) -> Timing,
+    pub whole: fn(&Input) -> f64,
+}
+
+pub const fn implementation<S: Settlement>(name: &'static str) -> Implementation {
+    Implementation {
+        name,
+        check: check::<S>,
+        by_kind: by_kind::<S>,
+        whole: whole::<S>,
+    }
+}
+
+/// Everything that can be seen of a run.
+#[derive(PartialEq, Eq)]
+pub struct Outcome {
+    pub refused: u64,
+    pub records: Vec<Vec<Record>>,
+    pub lines: Vec<(i64, i64, u64)>,
+    pub periods: Vec<u64>,
+    pub days_without_holder: Vec<Option<u64>>,
+}
+
+fn check<S: Settlement>(input: &Input) -> Outcome {
+    let mut settlement = S::open(&input.opening);
+    let mut outcome = Outcome {
+        refused: 0,
+        records: Vec::new(),
+        lines: Vec::new(),
+        periods: Vec::new(),
+        days_without_holder: Vec::new(),
+    };
+    for batch in &input.batches {
+        for fields in &batch.messages {
+            outcome.refused += u64::from(settlement.message(fields) != 0);
+            if fields[0] == 8 {
+                outcome.records.push(settlement.records());
+            }
+        }
+    }
+    let opening = &input.opening;
+    for supplier in 1..=opening.suppliers {
+        for element in 0..opening.elements.len() as u64 {
+            outcome.lines.push(settlement.line(supplier, element));
+        }
+    }
+    for point in 0..opening.points {
+        for element in 0..opening.elements.len() as u64 {
+            outcome
+                .periods
+                .push(settlement.period_count(point, element));
+        }
+        outcome
+            .days_without_holder
+            .push(settlement.day_without_holder(point));
+    }
+    settlement.finish();
+    outcome
+}
+
+/// The batches of a run in order: row of the table, number and seconds.
+pub struct Timing {
+    pub batches: Vec<(usize, u64, f64)>,
+}
+
+impl Timing {
+    /// Keeps the lesser time of each batch.
+    pub fn keep_best(&mut self, other: &Timing) {
+        for (mine, other) in self.batches.iter_mut().zip(&other.batches) {
+            mine.2 = mine.2.min(other.2);
+        }
+    }
+
+    /// Number and seconds of a row.
+    pub fn row(&self, row: usize) -> (u64, f64) {
+        let batches = self.batches.iter().filter(|batch| batch.0 == row);
+        batches.fold((0, 0.0), |(number, seconds), batch| {
+            (number + batch.1, seconds + batch.2)
+        })
+    }
+}
+
+/// Rows of the table after those of the messages.
+pub const LINE_QUERIES: usize = 10;
+pub const PERIOD_QUERIES: usize = 11;
+pub const DAY_QUERIES: usize = 12;
+const QUERIES: u64 = 20_000;
+
+/// Times each batch, and takes off what reading the clock costs.
+fn by_kind<S: Settlement>(input: &Input) -> Timing {
+    let clock = clock_seconds();
+    let mut timing = Timing {
+        batches: Vec::with_capacity(input.batches.len() + 100),
+    };
+    let mut time = |row: usize, number: usize, work: &mut dyn FnMut()| {
+        let start = Instant::now();
+        work();
+        let seconds = start.elapsed().as_secs_f64() - clock;
+        timing.batches.push((row, number as u64, seconds.max(0.0)));
+    };
+    let mut settlement = S::open(&input.opening);
+    for batch in &input.batches {
+        time(batch.row, batch.messages.len(), &mut || {
+            for fields in &batch.messages {
+                black_box(settlement.message(fields));
+            }
+        });
+    }
+
+    let (points, suppliers) = (input.opening.points, input.opening.suppliers);
+    let elements = input.opening.elements.len() as u64;
+    let lines: Vec<(u64, u64)> = (0..QUERIES)
+        .map(|n| (1 + n / elements % suppliers, n % elements))
+        .collect();
+    let pairs: Vec<(u64, u64)> = (0..QUERIES)
+        .map(|n| (n / elements % points, n % elements))
+        .collect();
+    let some_points: Vec<u64> = (0..QUERIES / 10).map(|n| n % points).collect();
+    for lines in lines.chunks(MOST_IN_BATCH) {
+        time(LINE_QUERIES, lines.len(), &mut || {
+            for (supplier, element) in lines {
+                black_box(settlement.line(*supplier, *element));
+            }
+        });
+    }
+    for pairs in pairs.chunks(MOST_IN_BATCH) {
+        time(PERIOD_QUERIES, pairs.len(), &mut || {
+            for (point, element) in pairs {
+                black_box(settlement.period_count(*point, *element));
+            }
+        });
+    }
+    for some_points in some_points.chunks(MOST_IN_BATCH) {
+        time(DAY_QUERIES, some_points.len(), &mut || {
+            for point in some_points {
+                black_box(settlement.day_without_holder(*point));
+            }
+        });
+    }
+    settlement.finish();
+    timing
+}
+
+/// Seconds from the opening to the last message, one clock for all.
+fn whole<S: Settlement>(input: &Input) -> f64 {
+    let start = Instant::now();
+    let mut settlement = S::open(&input.opening);
+    for batch in input.month_batches() {
+        for fields in &batch.messages {
+            black_box(settlement.message(fields));
+        }
+    }
+    settlement.finish();
+    start.elapsed().as_secs_f64()
+}
+
+/// What two readings of the clock cost: the least of many.
+pub fn clock_seconds() -> f64 {
+    (0..1000)
+        .map(|_| {
+            let start = Instant::now();
+            start.elapsed().as_secs_f64()
+        })
+        .fold(f64::INFINITY, f64::min)
+}

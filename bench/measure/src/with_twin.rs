@@ -1,0 +1,84 @@
+//! The settlement of `twin`.
+
+use crate::inputs::Opening;
+use crate::settlement::{Record, Settlement};
+
+pub struct Twin {
+    book: twin::Book,
+    records: Vec<twin::Record>,
+}
+
+impl Settlement for Twin {
+    fn open(opening: &Opening) -> Self {
+        let (elements, prices) = opening.tables();
+        match twin::open(opening.month(), opening.counts(), &elements, &prices) {
+            Ok(book) => Twin {
+                book,
+                records: Vec::with_capacity(1024),
+            },
+            Err(question) => panic!("the opening is refused by question {question}"),
+        }
+    }
+
+    #[inline]
+    fn message(&mut self, fields: &[u64; 9]) -> u64 {
+        self.records.clear();
+        twin::message(&mut self.book, fields, &mut self.records)
+    }
+
+    fn records(&self) -> Vec<Record> {
+        self.records.iter().map(numbers_of).collect()
+    }
+
+    #[inline]
+    fn line(&self, supplier: u64, element: u64) -> (i64, i64, u64) {
+        match self.book.line(supplier, element) {
+            Ok(line) => {
+                let (kroner, billionths) = two_parts(line.amount);
+                (line.quantity, kroner, billionths)
+            }
+            Err(_) => (0, 0, 0),
+        }
+    }
+
+    fn period_count(&self, point: u64, element: u64) -> u64 {
+        let periods = self.book.periods(point, element);
+        periods.map_or(0, |periods| periods.len() as u64)
+    }
+
+    fn day_without_holder(&self, point: u64) -> Option<u64> {
+        self.book
+            .day_without_holder(point)
+            .ok()
+            .flatten()
+            .map(u64::from)
+    }
+}
+
+pub fn numbers_of(record: &twin::Record) -> Record {
+    let (kroner, billionths) = two_parts(record.amount);
+    (
+        u64::from(record.kind),
+        u64::from(record.supplier),
+        u64::from(record.element),
+        record.quantity,
+        kroner,
+        billionths,
+    )
+}
+
+/// Whole kroner, rounded down, and billionths that count upwards.
+#[inline]
+fn two_parts(amount: i128) -> (i64, u64) {
+    // Nearly all amounts fit 64 bits, where a division is much faster.
+    match i64::try_from(amount) {
+        Ok(amount) => (
+            amount.div_euclid(1_000_000_000),
+            amount.rem_euclid(1_000_000_000) as u64,
+        ),
+        Err(_) => (
+            amount.div_euclid(1_000_000_000) as i64,
+            amount.rem_euclid(1_000_000_000) as u64,
+        ),
+    }
+}

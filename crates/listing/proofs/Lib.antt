@@ -1,0 +1,4 @@
+-- Laws of the lent list: for the walks, and for callers.
+pub mod Lending
+pub mod LocalArray
+pub mod ListReplies

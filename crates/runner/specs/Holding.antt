@@ -1,0 +1,104 @@
+-- What the numbers of a run and the tables lent to it stand for, and what is promised of one field.
+use Prim.Native.Nat.{ℕ, suc, _+_, _-_, _*_, _≤_, _<_, min}
+use mathlib.Core.Path.{_≡_}
+use mathlib.Core.Bool.{Bool, true, false, not, cond}
+use mathlib.Core.List.{List, [], _++_}
+use lib.IntN.{ℤ}
+use lib.ListN.{length, take, drop}
+use lib.Dec.{eqb}
+use Rattle.rules.specs.declared.Book.{Book}
+use Rattle.rules.specs.declared.Record.{Record}
+use Rattle.rules.specs.World.{Opening, World}
+use Rattle.rules.specs.Opening.{opened}
+use Rattle.rules.proofs.Parts.{Whole}
+use Rattle.rounds.specs.RecordNumbers.{sixOf, numbersOf}
+use Rattle.queries.specs.Promises.{freshBook}
+use Rattle.wire.specs.declared.Phase.{Phase}
+use Rattle.wire.specs.Lines.{refusedLine, Written}
+use Rattle.wire.specs.Program.{recordLines, endedBy, Heading, describedAll, pricesAll, lent, settleAnswer}
+use Rattle.runner.specs.declared.Progress.{Progress}
+use Rattle.runner.specs.declared.Advanced.{Advanced}
+use Rattle.runner.specs.Stages.{Stage, start, elements, messages, over, Move, lineOf}
+use Rattle.runner.specs.Parts.{Lent, Sized, worldIn, anew}
+
+-- the month, the values of the elements so far, and their count, which stops at 65: more than 64 are question 2 whatever they are
+pub record HoldsValues (b : Book) (elementData : List ℕ) (prices : List ℤ) (h : Heading) (values : List (List ℕ)) : Type 0 where
+  pub book : b ≡ freshBook (h .year) (h .month) (h .points) (h .suppliers) (min 65 (length values))
+  pub described : length values ≤ 64 → take (length values * 3) elementData ≡ describedAll values
+  pub priced : length values ≤ 64 → take (length values * 24) prices ≡ pricesAll values
+
+-- an open book
+pub record HoldsBook (b : Book) (t : Lent) (w : World) : Type 0 where
+  pub world : w ≡ worldIn b t
+  pub whole : Whole w
+  pub points : b .points ≤ 16
+
+-- the numbers and the tables stand for the stage
+abbrev pub Holds : Progress → Lent → Stage → Type 0
+Holds p t start = (p .over ≡ false) × (p .phase ≡ Phase.Start)
+Holds p t (elements h values) = (p .over ≡ false) × (p .phase ≡ Phase.Elements) × HoldsValues (p .book) (t .elementData) (t .prices) h values
+Holds p t (messages w number) = (p .over ≡ false) × (p .phase ≡ Phase.Messages) × HoldsBook (p .book) t w × (p .number ≡ number)
+Holds p t over = p .over ≡ true
+
+-- they stand for some stage
+pub record Stands (p : Progress) (t : Lent) : Type 0 where
+  pub stage : Stage
+  pub holds : Holds p t stage
+
+-- no field prints more than 1,024 lines
+abbrev pub longestText : ℕ
+longestText = 138240
+
+-- what is promised of one field: its text at a place of the output, the stage behind it and the place from which the run goes on
+pub record Advances (m : Move) (p : Progress) (t : Lent) (out after : List ℕ) (next from written : ℕ) : Type 0 where
+  pub holds : Holds p t (m .stage)
+  pub text : Written longestText out after from written (m .text)
+  pub place : next ≡ m .next
+
+abbrev pub advancedTo : Phase → Bool → Book → (number next written : ℕ) → Advanced
+advancedTo phase ended b number next written = record { progress = record { phase = phase; over = ended; book = b; number = number }; next = next; written = written; more = false }
+
+-- ---- an opening
+
+-- the book's line, or the refusal
+unfoldable pub openingText : Opening → List ℕ
+openingText o = cond (eqb (settleAnswer o) 0) (lineOf o) (endedBy (settleAnswer o))
+
+-- questions 2 to 4 of an opening, and the tables as a book that opens finds them
+pub record OpensTables (b : Book) (o : Opening) (after : Lent) (question : ℕ) : Type 0 where
+  pub answer : question ≡ settleAnswer o
+  pub world : settleAnswer o ≡ 0 → worldIn (anew b) after ≡ opened (lent o)
+
+-- one element field more
+abbrev pub counted : Book → Book
+counted b =
+    record {
+      year = b .year;
+      month = b .month;
+      points = b .points;
+      suppliers = b .suppliers;
+      elements = min 65 (b .elements + 1);
+      periods = b .periods;
+      holders = b .holders;
+      states = b .states;
+      round = b .round;
+    }
+
+-- ---- records
+
+-- a record's six numbers stand from a place of the list on
+pub record RecordAt (numbers : List ℤ) (at : ℕ) : Type 0 where
+  pub record-there : Record
+  pub behind : List ℤ
+  pub is : drop at numbers ≡ sixOf record-there ++ behind
+
+-- so many records stand at the front of the list
+pub record RecordsAt (numbers : List ℤ) (count : ℕ) : Type 0 where
+  pub records-there : List Record
+  pub behind : List ℤ
+  pub is : numbers ≡ numbersOf records-there ++ behind
+  pub all : count ≡ length records-there
+
+-- what a message prints: its records, or the refusal
+unfoldable pub answerText : List Record → (number question : ℕ) → List ℕ
+answerText rs number question = cond (eqb question 0) (recordLines rs) (refusedLine number question)
