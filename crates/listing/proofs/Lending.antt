@@ -1,7 +1,7 @@
 -- A `&κ mut [T]` of n elements that is lent for a lifetime κ′ of a call, again as `&mut` or shared as `&`, and comes back. It says nothing of the crate.
 --     LentAgain, SharedOut     what the holder keeps meanwhile
 -- Assumes `Given`.
-use mathlib.Core.Path.{_≡_, refl, sym, ap, subst, _∙_}
+use mathlib.Core.Path.{_≡_, refl, sym, ap, subst}
 use Prim.Native.Nat.{ℕ}
 use mathlib.Core.List.{List, [], _∷_}
 use lib.ListN.{length}

@@ -2,3 +2,4 @@
 pub mod Lending
 pub mod LocalArray
 pub mod ListReplies
+pub mod Texts

@@ -1,8 +1,18 @@
 // The entry points for messages that are lent a list of records: the records that are due go to its front, then the message is taken.
-ghost use lib.ListN.{length};
+ghost use mathlib.Core.Path.{_≡_};
+ghost use mathlib.Core.Logic.{_≢_};
+ghost use mathlib.Core.Bool.{cond};
+ghost use mathlib.Core.List.{[]};
+ghost use Prim.Native.Nat.{_+_, _*_, _≤_, _<_};
+ghost use lib.ListN.{length, take, getD};
+ghost use lib.Dec.{eqb};
 ghost use Rattle.rules.specs.World.{worldOf};
+ghost use Rattle.rules.specs.Answers.{numberOf};
 ghost use Rattle.rules.proofs.Parts.{Whole};
-ghost use Rattle.listing.specs.Replies.{Replied};
+ghost use Rattle.wire.specs.Lines.{recordLine, refusedLine, longestLine, Written};
+ghost use Rattle.wire.specs.Program.{recordPlaces, recordLines};
+ghost use Rattle.listing.specs.Replies.{noRecord, Replied, Texted};
+use messages::number;
 use records::put_list;
 use rules::Book;
 use rules::Fields;
@@ -12,6 +22,8 @@ use settlement::due;
 use settlement::due_within;
 use settlement::take;
 use settlement::take_within;
+use wire::put_record;
+use wire::put_refused;
 
 // A message of a book that is well formed, and stays so. Cost: as for `settlement::take_within`.
 pub fn message_within(
@@ -112,4 +124,109 @@ pub fn message(
         records.len(),
         fields,
     )
+}
+
+// ---- a message whose records are printed, for callers that lend no list
+
+// A message's reply, and the place behind what was printed.
+pub struct Printed {
+    pub reply: Reply,
+    pub written: usize,
+}
+
+// The record at a place of the list.
+fn record_in(list: &[Record], at: usize) -> Record
+    requires { ⌜ at < length (now list) ⌝ }
+    ensures { λ r. ⌜ r ≡ getD (now (list .entry)) at noRecord ⌝ }
+{
+    list[at]
+}
+
+// The line of the record at place `i` of the list.
+fn put_entry(list: &[Record], i: usize, out: &mut [u8], at: usize) -> usize
+    requires { ⌜ (i < length (now list)) × (at + longestLine ≤ length (now out)) ⌝ }
+    ensures { λ r. ⌜ Written longestLine (now (out .entry)) (now (out .exit)) at r (recordLine (getD (now (list .entry)) i noRecord)) ⌝ }
+{
+    let record = record_in(list, i);
+    put_record(out, at, record)
+}
+
+// The lines of the first `count` records of the list. Linear in them.
+fn put_entries(list: &[Record], count: usize, out: &mut [u8], from: usize) -> usize
+    requires { ⌜ (count ≤ length (now list)) × (from + count * longestLine ≤ length (now out)) ⌝ }
+    ensures { λ r. ⌜ Written (count * longestLine) (now (out .entry)) (now (out .exit)) from r (recordLines (take count (now (list .entry)))) ⌝ }
+{
+    let mut written = from;
+    let mut i = 0;
+    while i < count {
+        written = put_entry(list, i, out, written);
+        i += 1;
+    }
+    written
+}
+
+// The refusal of a message, or nothing, behind its records.
+fn put_answer(reply: Reply, message: u64, out: &mut [u8], at: usize) -> Printed
+    requires { ⌜ (numberOf (reply .answer) ≢ 0 → at + longestLine ≤ length (now out)) ⌝ }
+    ensures { λ r. ⌜ (r .reply ≡ reply) × Written longestLine (now (out .entry)) (now (out .exit)) at (r .written) (cond (eqb (numberOf (reply .answer)) 0) [] (refusedLine message (numberOf (reply .answer)))) ⌝ }
+{
+    let answer = reply.answer;
+    let question = number(answer);
+    if question == 0 {
+        Printed {
+            reply: reply,
+            written: at,
+        }
+    } else {
+        Printed {
+            reply: reply,
+            written: put_refused(out, at, message, question),
+        }
+    }
+}
+
+// A message of a book that is well formed, and stays so, with a list of 1,024 records: what it prints, from a place on. Cost: as for `message_within`.
+pub fn message_text(
+    book: Book,
+    element_data: &[u8],
+    prices: &[i64],
+    links: &mut [u64],
+    holders: &mut [u64],
+    states: &mut [u64],
+    readings: &mut [u32],
+    blocks: &mut [u8],
+    lines: &mut [i64],
+    sent: &mut [i64],
+    fields: Fields,
+    message: u64,
+    out: &mut [u8],
+    from: usize,
+) -> Printed
+    requires { ⌜ Whole (worldOf book (now element_data) (now prices) (now links) (now holders) (now states) (now readings) (now blocks) (now lines) (now sent)) × (from + recordPlaces * longestLine ≤ length (now out)) ⌝ }
+    ensures { λ r. ⌜ Texted (worldOf book (now (element_data .entry)) (now (prices .entry)) (now (links .entry)) (now (holders .entry)) (now (states .entry)) (now (readings .entry)) (now (blocks .entry)) (now (lines .entry)) (now (sent .entry))) (worldOf (r .reply .book) (now (element_data .entry)) (now (prices .entry)) (now (links .exit)) (now (holders .exit)) (now (states .exit)) (now (readings .exit)) (now (blocks .exit)) (now (lines .exit)) (now (sent .exit))) fields message r (now (out .entry)) (now (out .exit)) from × Whole (worldOf (r .reply .book) (now (element_data .entry)) (now (prices .entry)) (now (links .exit)) (now (holders .exit)) (now (states .exit)) (now (readings .exit)) (now (blocks .exit)) (now (lines .exit)) (now (sent .exit))) ⌝ }
+{
+    let mut list = [Record {
+        kind: 0,
+        supplier: 0,
+        element: 0,
+        quantity: 0,
+        kroner: 0,
+        billionths: 0,
+    }; 1024];
+    let reply = message_within(
+        book,
+        element_data,
+        prices,
+        links,
+        holders,
+        states,
+        readings,
+        blocks,
+        lines,
+        sent,
+        &mut list,
+        fields,
+    );
+    let written = put_entries(&list, reply.records, out, from);
+    put_answer(reply, message, out, written)
 }

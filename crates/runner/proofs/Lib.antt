@@ -2,3 +2,7 @@
 pub mod StageLaws
 pub mod PartLaws
 pub mod OpenLaws
+pub mod TextLaws
+pub mod FoundLaws
+pub mod ArmLaws
+pub mod ValueLaws

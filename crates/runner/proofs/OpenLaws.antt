@@ -31,9 +31,9 @@ use Rattle.wire.specs.Program.{endedBy, Heading, describedAll, pricesAll, colle
 use Rattle.wire.proofs.PlacedLaws.{loosened}
 use Rattle.runner.specs.declared.Ends.{Ends}
 use Rattle.runner.specs.declared.Advanced.{Advanced}
-use Rattle.runner.specs.Stages.{Stage, messages, broken, lineOf, opening}
+use Rattle.runner.specs.Stages.{Stage, broken, lineOf, openedTo, opening}
 use Rattle.runner.specs.Parts.{Lent, Sized, Fitted, isFitted, endsOf, worldIn, openingIn, anew}
-use Rattle.runner.specs.Holding.{HoldsValues, Advances, advancedTo, OpensTables}
+use Rattle.runner.specs.Holding.{HoldsValues, HoldsBook, Holds, Advances, advancedTo, OpensTables}
 use Rattle.runner.proofs.StageLaws.{never}
 use Rattle.runner.proofs.PartLaws.{ends-fit, partsOf, after, parts-are, parts-back}
 
@@ -175,21 +175,25 @@ unfolding worldIn
 open-points b t h = settles (openingIn b t) h .points
 
 module _ (b : Book) (t t′ : Lent) (question : ℕ) (p : OpensTables b (openingIn b t) t′ question) (h : Heading) (values : List (List ℕ)) (v : HoldsValues b (t .elementData) (t .prices) h values)
-    (out out′ : List ℕ) (at from written : ℕ) (r : Advanced)
+    (out out′ : List ℕ) (at from written : ℕ) (last : Bool) (r : Advanced)
     where
   abbrev Done : Type 0
-  Done = Advances (opening at (collected h values) (λ w. messages w 1)) (r .progress) t′ out out′ (r .next) from (r .written)
+  Done = Advances (opening at (collected h values) (openedTo last)) (r .progress) t′ out out′ (r .next) from (r .written)
+
+  opened-holds : (t : Lent) (w : World) (last : Bool) (at written : ℕ) → HoldsBook b t w → Holds (advancedTo Phase.Messages last b 1 at written .progress) t (openedTo last w)
+  opened-holds t w true at written h = refl
+  opened-holds t w false at written h = (refl, refl, h, refl)
 
   -- the book's line
   pub book-opens : question ≡ 0 → (days first : ℕ) → days ≡ daysOfMonth (b .year) (b .month) → first ≡ firstDay (b .year) (b .month)
-      → Written longestLine out out′ from written (bookLine (b .year) (b .month) days first) → r ≡ advancedTo Phase.Messages false b 1 at written → Done
+      → Written longestLine out out′ from written (bookLine (b .year) (b .month) days first) → r ≡ advancedTo Phase.Messages last b 1 at written → Done
   unfolding opening lineOf monthDays monthFirst worldIn
   book-opens z days first d f w e =
       let a : settleAnswer (openingIn b t) ≡ 0 = sym (p .answer) ∙ z in
       let s = settles (openingIn b t) a in
       let same : worldIn b t′ ≡ opened (lent (openingIn b t)) = ap (λ x. worldIn x t′) (sym (fresh-again b t h values v)) ∙ p .world a in
-      rw (← opening-in b t h values v at (λ w. messages w 1), e, a) (record {
-        holds = (refl, refl, record { world = sym same; whole = s .whole; points = open-points b t a }, refl);
+      rw (← opening-in b t h values v at (openedTo last), e, a) (record {
+        holds = opened-holds t′ (opened (lent (openingIn b t))) last at written (record { world = sym same; whole = s .whole; points = open-points b t a });
         text = loosened (omega arith) (rw (d, f) at w);
         place = refl;
       })
@@ -199,7 +203,7 @@ module _ (b : Book) (t t′ : Lent) (question : ℕ) (p : OpensTables b (opening
   unfolding opening broken endedBy
   book-stays z w e =
       let a : settleAnswer (openingIn b t) ≢ 0 = λ y. z (p .answer ∙ y) in
-      rw (← opening-in b t h values v at (λ w. messages w 1), e, ne-eqb (settleAnswer (openingIn b t)) 0 a) (record {
+      rw (← opening-in b t h values v at (openedTo last), e, ne-eqb (settleAnswer (openingIn b t)) 0 a) (record {
         holds = refl;
         text = loosened (omega arith) (rw (p .answer) at w);
         place = refl;

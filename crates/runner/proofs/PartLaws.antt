@@ -19,14 +19,20 @@ use Rattle.rules.specs.declared.Fields.{Fields}
 use Rattle.rules.specs.Basics.{within}
 use Rattle.rules.specs.World.{Opening, World, worldOf}
 use Rattle.rules.specs.WellFormed.{withinLimits, rowsFit, question2}
-use Rattle.rules.specs.Effects.{posted, accepted, stepBy, step}
+use Rattle.rules.specs.Effects.{posted, accepted, stepBy, step, recordsOf}
 use Rattle.rules.proofs.Tests.{both}
 use Rattle.rules.proofs.Ranges.{within-low, within-high}
 use Rattle.rules.proofs.Parts.{Limits, limits, Whole}
 use Rattle.settlement.specs.declared.Reply.{Reply}
-use Rattle.settlement.specs.Replies.{Replied}
+use Rattle.settlement.specs.Replies.{Answered, Due}
+use Rattle.rounds.specs.Moved.{IsWorld}
+use Rattle.rounds.proofs.Sending.{world-of}
+use Rattle.wire.specs.Lines.{longestLine, Written}
+use Rattle.wire.specs.Program.{recordPlaces, recordLines}
+use Rattle.wire.proofs.PlacedLaws.{loosened}
 use Rattle.runner.specs.declared.Ends.{Ends}
 use Rattle.runner.specs.Parts.{Lent, lentOf, Sized, Fitted, isFitted, endsOf, worldIn}
+use Rattle.runner.specs.Holding.{longestText, recordsListed}
 
 -- ---- the parts lie within the tables
 
@@ -87,7 +93,7 @@ unfolding stepBy posted
 by-opening w none = refl
 by-opening w (some b) = refl
 
-step-opening : (w : World) (f : Fields) (room : ℕ) → step w f room .opening ≡ w .opening
+pub step-opening : (w : World) (f : Fields) (room : ℕ) → step w f room .opening ≡ w .opening
 unfolding step
 step-opening w f room = by-opening w (accepted w f room)
 
@@ -109,6 +115,14 @@ module _ (b : Book) (t : Lent) (e : Ends) (q : e ≡ endsOf b) where
   unfolding worldIn
   parts-are = rw q
 
+  -- the records that are due to the parts
+  pub due-text : (f : Fields) (moved : List ℕ) (n : ℕ) (out after : List ℕ) (from written : ℕ)
+      → Due (partsOf b (t .links) (t .holders) (t .states) (take (e .readings) (t .readings)) (take (e .blocks) (t .blocks)) (take (e .lines) (t .lines)) (take (e .lines) (t .sent))) b (take (e .lines) (t .lines)) (take (e .lines) (t .sent)) f recordPlaces moved n
+      → ((w : World) → IsWorld w b (take (e .lines) (t .lines)) (take (e .lines) (t .sent)) → Written (n * longestLine) out after from written (recordLines (recordsListed w moved n)))
+      → Written longestText out after from written (recordLines (recordsOf (worldIn b t) f recordPlaces))
+  due-text f moved n out after from written d w =
+      rw (parts-are, d .records) (loosened (let z : n * 135 ≤ 138240 = omega (arith, d .listed) in z) (w (partsOf b (t .links) (t .holders) (t .states) (take (e .readings) (t .readings)) (take (e .blocks) (t .blocks)) (take (e .lines) (t .lines)) (take (e .lines) (t .sent))) (world-of _ _ _ _ _ _ _ _ _ _)))
+
   module _ (s : Sized t) (g : Fitted b) (a : Book) (links holders states rs bs : List ℕ) (ns ts : List ℤ)
       (lr : length rs ≡ length (take (e .readings) (t .readings)))
       (lb : length bs ≡ length (take (e .blocks) (t .blocks)))
@@ -126,11 +140,11 @@ module _ (b : Book) (t : Lent) (e : Ends) (q : e ≡ endsOf b) where
         rw (z, ← q, front-back (e .readings) (t .readings) rs lr (omega (arith, s .readings, f .readings)), front-back (e .blocks) (t .blocks) bs lb (omega (arith, s .blocks, f .blocks)), front-back (e .lines) (t .lines) ns ll (omega (arith, s .lines, f .lines)), front-back (e .lines) (t .sent) ts lt (omega (arith, s .sent, f .lines)))
 
     -- a message that was taken by the parts was taken by the tables
-    pub message-done : (f : Fields) (r : Reply) (recs recs′ : List ℤ)
-        → Replied (partsOf b (t .links) (t .holders) (t .states) (take (e .readings) (t .readings)) (take (e .blocks) (t .blocks)) (take (e .lines) (t .lines)) (take (e .lines) (t .sent))) (partsOf a links holders states rs bs ns ts) f r recs recs′
+    pub message-done : (f : Fields) (r : Reply) (room : ℕ)
+        → Answered (partsOf b (t .links) (t .holders) (t .states) (take (e .readings) (t .readings)) (take (e .blocks) (t .blocks)) (take (e .lines) (t .lines)) (take (e .lines) (t .sent))) (partsOf a links holders states rs bs ns ts) f r room
         × Whole (partsOf a links holders states rs bs ns ts)
-        → Replied (worldIn b t) (worldIn a after) f r recs recs′ × Whole (worldIn a after)
-    message-done f r recs recs′ p =
-        let o = ap (λ (x : World). x .opening) (p .0 .world) ∙ step-opening _ f _ in
+        → Answered (worldIn b t) (worldIn a after) f r room × Whole (worldIn a after)
+    message-done f r room p =
+        let o = ap (λ (x : World). x .opening) (p .0 .world) ∙ step-opening _ f room in
         let z = parts-back (ends-same a b (ap (λ (x : Opening). x .year) o) (ap (λ (x : Opening). x .month) o) (ap (λ (x : Opening). x .points) o) (ap (λ (x : Opening). x .suppliers) o) (ap (λ (x : Opening). x .elements) o)) in
         rw (parts-are, z) p

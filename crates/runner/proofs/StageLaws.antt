@@ -19,7 +19,7 @@ use Rattle.wire.specs.Field.{tagOf, fieldNamed, monthIn, rightField, wholeField
 use Rattle.wire.specs.Program.{endedBy, recordPlaces, answered, onMessage, messagesFrom, Heading, collected, settleAnswer, openThen, onElement, elementsFrom, onMonth, settled}
 use Rattle.wire.proofs.FieldLaws.{whole-rest, front-decides, inside-in, inside-of, Undecided}
 use Rattle.wire.proofs.ProgramLaws.{messages-enough, elements-enough}
-use Rattle.runner.specs.Stages.{Stage, start, elements, messages, over, phaseOf, printed, Move, broken, lineOf, opening, moveOn, isMore}
+use Rattle.runner.specs.Stages.{Stage, start, elements, messages, over, phaseOf, printed, Move, broken, lineOf, openedTo, opening, moveOn, isMore}
 
 -- ---- one field, where it is the one at the front of all the bytes that are left
 
@@ -60,8 +60,8 @@ module _ (bytes : List ℕ) where
   onward start Broken m l e = rw e (behind (endedBy 1))
   onward (elements h values) (Month year month points suppliers next) m l e = rw e (behind (endedBy 1))
   onward (elements h values) (Element from size next) m l e = rw e (elements-behind bytes next h _ (omega arith) (l .2))
-  onward (elements h values) (Message f next) m l e = rw e (opens (collected h values) bytes (λ w. messages w 1))
-  onward (elements h values) End m l e = rw e (opens (collected h values) bytes (λ w. over))
+  onward (elements h values) (Message f next) m l e = rw e (opens (collected h values) bytes (openedTo false))
+  onward (elements h values) End m l e = rw e (opens (collected h values) bytes (openedTo true))
   onward (elements h values) More m l e = never m
   onward (elements h values) Broken m l e = rw e (behind (endedBy 1))
   onward (messages w number) (Month year month points suppliers next) m l e = rw e (behind (endedBy 1))
@@ -115,8 +115,8 @@ next-inside start More front l = omega arith
 next-inside start Broken front l = omega arith
 next-inside (elements h values) (Month year month points suppliers next) front l = omega arith
 next-inside (elements h values) (Element from size next) front l = l .2
-next-inside (elements h values) (Message f next) front l = rw (opening-next (collected h values) (λ w. messages w 1)) (omega arith)
-next-inside (elements h values) End front l = rw (opening-next (collected h values) (λ w. over)) (omega arith)
+next-inside (elements h values) (Message f next) front l = rw (opening-next (collected h values) (openedTo false)) (omega arith)
+next-inside (elements h values) End front l = rw (opening-next (collected h values) (openedTo true)) (omega arith)
 next-inside (elements h values) More front l = omega arith
 next-inside (elements h values) Broken front l = omega arith
 next-inside (messages w number) (Month year month points suppliers next) front l = omega arith
@@ -176,8 +176,8 @@ move-from at start More s = let z : at ≡ at + 0 = omega arith in rw (← z)
 move-from at start Broken s = let z : at ≡ at + 0 = omega arith in rw (← z)
 move-from at (elements h values) (Month year month points suppliers next) s = let z : at ≡ at + 0 = omega arith in rw (← z)
 move-from at (elements h values) (Element from size next) s = rw (drop-drop from at s)
-move-from at (elements h values) (Message f next) s = opening-from at (collected h values) (λ w. messages w 1)
-move-from at (elements h values) End s = opening-from at (collected h values) (λ w. over)
+move-from at (elements h values) (Message f next) s = opening-from at (collected h values) (openedTo false)
+move-from at (elements h values) End s = opening-from at (collected h values) (openedTo true)
 move-from at (elements h values) More s = let z : at ≡ at + 0 = omega arith in rw (← z)
 move-from at (elements h values) Broken s = let z : at ≡ at + 0 = omega arith in rw (← z)
 move-from at (messages w number) (Month year month points suppliers next) s = let z : at ≡ at + 0 = omega arith in rw (← z)

@@ -2,20 +2,22 @@
 use Prim.Native.Nat.{ℕ, suc, _+_, _-_, _*_, _≤_, _<_, min}
 use mathlib.Core.Path.{_≡_}
 use mathlib.Core.Bool.{Bool, true, false, not, cond}
-use mathlib.Core.List.{List, [], _++_}
+use mathlib.Core.List.{List, []}
 use lib.IntN.{ℤ}
-use lib.ListN.{length, take, drop}
+use lib.ListN.{length, getD, take}
 use lib.Dec.{eqb}
 use Rattle.rules.specs.declared.Book.{Book}
+use Rattle.rules.specs.declared.Fields.{Fields}
 use Rattle.rules.specs.declared.Record.{Record}
+use Rattle.rules.specs.Basics.{listTo}
 use Rattle.rules.specs.World.{Opening, World}
 use Rattle.rules.specs.Opening.{opened}
+use Rattle.rules.specs.Effects.{supplierOf, elementOf, recordOf, step}
 use Rattle.rules.proofs.Parts.{Whole}
-use Rattle.rounds.specs.RecordNumbers.{sixOf, numbersOf}
 use Rattle.queries.specs.Promises.{freshBook}
 use Rattle.wire.specs.declared.Phase.{Phase}
-use Rattle.wire.specs.Lines.{refusedLine, Written}
-use Rattle.wire.specs.Program.{recordLines, endedBy, Heading, describedAll, pricesAll, lent, settleAnswer}
+use Rattle.wire.specs.Lines.{Written}
+use Rattle.wire.specs.Program.{endedBy, recordPlaces, answered, Heading, describedAll, pricesAll, lent, settleAnswer}
 use Rattle.runner.specs.declared.Progress.{Progress}
 use Rattle.runner.specs.declared.Advanced.{Advanced}
 use Rattle.runner.specs.Stages.{Stage, start, elements, messages, over, Move, lineOf}
@@ -49,6 +51,10 @@ pub record Stands (p : Progress) (t : Lent) : Type 0 where
 abbrev pub longestText : ℕ
 longestText = 138240
 
+-- no message has a greater number
+abbrev pub lastNumber : ℕ
+lastNumber = 18446744073709551615
+
 -- what is promised of one field: its text at a place of the output, the stage behind it and the place from which the run goes on
 pub record Advances (m : Move) (p : Progress) (t : Lent) (out after : List ℕ) (next from written : ℕ) : Type 0 where
   pub holds : Holds p t (m .stage)
@@ -57,6 +63,9 @@ pub record Advances (m : Move) (p : Progress) (t : Lent) (out after : List ℕ) 
 
 abbrev pub advancedTo : Phase → Bool → Book → (number next written : ℕ) → Advanced
 advancedTo phase ended b number next written = record { progress = record { phase = phase; over = ended; book = b; number = number }; next = next; written = written; more = false }
+
+abbrev pub waitsAt : Progress → (at from : ℕ) → Advanced
+waitsAt p at from = record { progress = p; next = at; written = from; more = true }
 
 -- ---- an opening
 
@@ -84,21 +93,16 @@ counted b =
       round = b .round;
     }
 
--- ---- records
+-- ---- a message
 
--- a record's six numbers stand from a place of the list on
-pub record RecordAt (numbers : List ℤ) (at : ℕ) : Type 0 where
-  pub record-there : Record
-  pub behind : List ℤ
-  pub is : drop at numbers ≡ sixOf record-there ++ behind
+-- the records of so many lines whose numbers are listed
+abbrev pub recordsListed : World → List ℕ → ℕ → List Record
+recordsListed w moved n = listTo (λ i. recordOf w (supplierOf (w .opening) (getD moved i 0)) (elementOf (w .opening) (getD moved i 0))) n
 
--- so many records stand at the front of the list
-pub record RecordsAt (numbers : List ℤ) (count : ℕ) : Type 0 where
-  pub records-there : List Record
-  pub behind : List ℤ
-  pub is : numbers ≡ numbersOf records-there ++ behind
-  pub all : count ≡ length records-there
-
--- what a message prints: its records, or the refusal
-unfoldable pub answerText : List Record → (number question : ℕ) → List ℕ
-answerText rs number question = cond (eqb question 0) (recordLines rs) (refusedLine number question)
+-- the book, the tables and the text after a message
+pub record TakesMessage (w : World) (f : Fields) (number next : ℕ) (r : Advanced) (t : Lent) (out after : List ℕ) (from : ℕ) : Type 0 where
+  pub world : worldIn (r .progress .book) t ≡ step w f recordPlaces
+  pub whole : Whole (worldIn (r .progress .book) t)
+  pub points : r .progress .book .points ≡ w .opening .points
+  pub text : Written longestText out after from (r .written) (answered w f number)
+  pub made : r ≡ advancedTo Phase.Messages false (r .progress .book) (suc number) next (r .written)

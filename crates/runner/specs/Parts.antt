@@ -13,7 +13,7 @@ use Rattle.rules.specs.World.{Opening, World, worldOf}
 use Rattle.queries.specs.Promises.{freshBook}
 use Rattle.runner.specs.declared.Ends.{Ends}
 
--- what is lent besides the list of records, in the order in which it is lent
+-- what is lent, in the order in which it is lent
 pub record Lent : Type 0 where
   pub elementData : List ℕ
   pub prices : List ℤ
@@ -50,10 +50,6 @@ pub record Sized (t : Lent) : Type 0 where
   pub blocks : length (t .blocks) ≡ 16
   pub lines : length (t .lines) ≡ 3072
   pub sent : length (t .sent) ≡ 3072
-
--- the numbers of a list of 1,024 records
-abbrev pub recordNumbers : ℕ
-recordNumbers = 6144
 
 -- a month of the calendar, and counts that the tables have room for
 pub record Fitted (b : Book) : Type 0 where

@@ -10,6 +10,7 @@ use Rattle.rules.specs.Effects.{step}
 use Rattle.wire.specs.declared.Phase.{Phase}
 use Rattle.wire.specs.declared.Found.{Found}
 use Rattle.wire.specs.declared.Found.the-variants.{Month, Element, Message, End, More, Broken}
+use Rattle.wire.specs.Field.{fieldIn, fieldFrom}
 use Rattle.wire.specs.Lines.{bookLine}
 use Rattle.wire.specs.Program.{endedBy, recordPlaces, answered, messagesFrom, Heading, collected, lent, settleAnswer, elementsFrom, settled}
 
@@ -52,6 +53,11 @@ broken at question = record { text = endedBy question; stage = over; next = at }
 unfoldable pub lineOf : Opening → List ℕ
 lineOf o = bookLine (o .year) (o .month) (monthDays o) (monthFirst o)
 
+-- behind the opening: the messages, or the end of the input
+abbrev pub openedTo : Bool → World → Stage
+openedTo false w = messages w 1
+openedTo true w = over
+
 -- "The book opens, printing its line": the run goes on from the same place with a stage that the opened world gives
 unfoldable pub opening : ℕ → Opening → (World → Stage) → Move
 opening at o more = cond (eqb (settleAnswer o) 0) (record { text = lineOf o; stage = more (opened (lent o)); next = at }) (broken at (settleAnswer o))
@@ -66,8 +72,8 @@ moveOn at start More bytes = quiet start at
 moveOn at start Broken bytes = broken at 1
 moveOn at (elements h values) (Month year month points suppliers next) bytes = broken at 1
 moveOn at (elements h values) (Element from size next) bytes = quiet (elements h (values ++ (take size (drop from bytes) ∷ []))) next
-moveOn at (elements h values) (Message f next) bytes = opening at (collected h values) (λ w. messages w 1)
-moveOn at (elements h values) End bytes = opening at (collected h values) (λ w. over)
+moveOn at (elements h values) (Message f next) bytes = opening at (collected h values) (openedTo false)
+moveOn at (elements h values) End bytes = opening at (collected h values) (openedTo true)
 moveOn at (elements h values) More bytes = quiet (elements h values) at
 moveOn at (elements h values) Broken bytes = broken at 1
 moveOn at (messages w number) (Month year month points suppliers next) bytes = broken at 1
@@ -78,6 +84,10 @@ moveOn at (messages w number) More bytes = quiet (messages w number) at
 moveOn at (messages w number) Broken bytes = broken at 1
 moveOn at over found bytes = quiet over at
 
+-- the field at a place of the bytes in hand
+abbrev pub foundAt : List ℕ → (at : ℕ) → Phase → (ended : Bool) → Found
+foundAt s at phase ended = fieldFrom at (fieldIn (drop at s) phase ended)
+
 -- the bytes in hand end within a field
 unfoldable pub isMore : Found → Bool
 isMore (Month year month points suppliers next) = false
@@ -86,3 +96,21 @@ isMore (Message f next) = false
 isMore End = false
 isMore More = true
 isMore Broken = false
+
+-- the end of the input
+unfoldable pub isEnd : Found → Bool
+isEnd (Month year month points suppliers next) = false
+isEnd (Element from size next) = false
+isEnd (Message f next) = false
+isEnd End = true
+isEnd More = false
+isEnd Broken = false
+
+-- "The book opens .. at the first whole message field or the end"
+unfoldable pub opensBook : Found → Bool
+opensBook (Month year month points suppliers next) = false
+opensBook (Element from size next) = false
+opensBook (Message f next) = true
+opensBook End = true
+opensBook More = false
+opensBook Broken = false

@@ -1,34 +1,45 @@
 // The run of the program `settle` over input bytes, one field at a time: document 01, "File and program". The tables are lent at the
 // program's own sizes; a book uses the fronts of them.
 ghost use mathlib.Core.Path.{_≡_};
-ghost use mathlib.Core.Bool.{false};
-ghost use mathlib.Core.List.{List};
+ghost use mathlib.Core.Bool.{false, cond};
+ghost use mathlib.Core.List.{List, [], _∷_, _++_};
 ghost use Prim.Native.Nat.{ℕ, _+_, _*_, _≤_, _<_};
-ghost use lib.ListN.{length};
+ghost use lib.IntN.{ℤ};
+ghost use lib.ListN.{length, getD, take, drop};
+ghost use lib.Dec.{eqb};
+ghost use Rattle.rules.specs.World.{World};
+ghost use Rattle.rules.specs.Effects.{recordsOf};
 ghost use Rattle.rules.specs.Answers.{openedNumber};
 ghost use Rattle.rules.proofs.Parts.{Whole};
-ghost use Rattle.settlement.specs.Replies.{Replied};
-ghost use Rattle.wire.specs.Lines.{longestLine, Written};
-ghost use Rattle.wire.specs.Program.{recordLines, Heading, collected};
-ghost use Rattle.runner.specs.Stages.{messages, opening};
-ghost use Rattle.runner.specs.Parts.{lentOf, Sized, recordNumbers, Fitted, isFitted, endsOf, worldIn, openingIn};
-ghost use Rattle.runner.specs.Holding.{HoldsValues, Advances, OpensTables, advancedTo, RecordAt, RecordsAt};
+ghost use Rattle.rounds.specs.Moved.{linesIn, IsWorld, Settled};
+ghost use Rattle.queries.specs.Promises.{freshBook};
+ghost use Rattle.settlement.specs.Replies.{Answered};
+ghost use Rattle.wire.specs.Field.{Inside};
+ghost use Rattle.wire.specs.Lines.{refusedLine, longestLine, Written};
+ghost use Rattle.wire.specs.Program.{recordPlaces, recordLines, Heading, collected};
+ghost use Rattle.runner.specs.Stages.{Stage, start, elements, messages, broken, openedTo, opening, moveOn, foundAt, isMore, isEnd, opensBook};
+ghost use Rattle.runner.specs.Parts.{Lent, lentOf, Sized, Fitted, isFitted, endsOf, worldIn, openingIn};
+ghost use Rattle.runner.specs.Holding.{HoldsValues, Holds, Stands, longestText, lastNumber, Advances, advancedTo, waitsAt, OpensTables, counted, recordsListed, TakesMessage};
 use calendar::days_in_month;
 use calendar::first_day;
 use intake::all_three;
 use intake::is_within;
 use messages::number;
 use queries::open;
+use reader::find;
+use rounds::record_of;
 use rules::Book;
 use rules::Fields;
 use rules::Opened;
-use rules::Record;
 use settlement::Reply;
-use settlement::message_within;
+use settlement::due_within;
+use settlement::take_within;
+use wire::Found;
 use wire::Phase;
 use wire::put_book;
 use wire::put_record;
 use wire::put_refused;
+use wire::read_element;
 
 // How far a run has come.
 pub struct Progress {
@@ -85,7 +96,7 @@ fn ends_of(book: Book) -> Ends
 }
 
 // A message of an open book.
-fn message_in_parts(
+fn take_in_parts(
     book: Book,
     element_data: &[u8],
     prices: &[i64],
@@ -96,12 +107,11 @@ fn message_in_parts(
     blocks: &mut [u8],
     lines: &mut [i64],
     sent: &mut [i64],
-    records: &mut [i64],
     fields: Fields,
 ) -> Reply
     requires { ⌜ Sized (lentOf (now element_data) (now prices) (now links) (now holders) (now states) (now readings) (now blocks) (now lines) (now sent)) ⌝ }
     requires { ⌜ Whole (worldIn book (lentOf (now element_data) (now prices) (now links) (now holders) (now states) (now readings) (now blocks) (now lines) (now sent))) × (book .points ≤ 16) ⌝ }
-    ensures { λ r. ⌜ Replied (worldIn book (lentOf (now (element_data .entry)) (now (prices .entry)) (now (links .entry)) (now (holders .entry)) (now (states .entry)) (now (readings .entry)) (now (blocks .entry)) (now (lines .entry)) (now (sent .entry)))) (worldIn (r .book) (lentOf (now (element_data .entry)) (now (prices .entry)) (now (links .exit)) (now (holders .exit)) (now (states .exit)) (now (readings .exit)) (now (blocks .exit)) (now (lines .exit)) (now (sent .exit)))) fields r (now (records .entry)) (now (records .exit)) × Whole (worldIn (r .book) (lentOf (now (element_data .entry)) (now (prices .entry)) (now (links .exit)) (now (holders .exit)) (now (states .exit)) (now (readings .exit)) (now (blocks .exit)) (now (lines .exit)) (now (sent .exit)))) ⌝ }
+    ensures { λ r. ⌜ Answered (worldIn book (lentOf (now (element_data .entry)) (now (prices .entry)) (now (links .entry)) (now (holders .entry)) (now (states .entry)) (now (readings .entry)) (now (blocks .entry)) (now (lines .entry)) (now (sent .entry)))) (worldIn (r .book) (lentOf (now (element_data .entry)) (now (prices .entry)) (now (links .exit)) (now (holders .exit)) (now (states .exit)) (now (readings .exit)) (now (blocks .exit)) (now (lines .exit)) (now (sent .exit)))) fields r recordPlaces × Whole (worldIn (r .book) (lentOf (now (element_data .entry)) (now (prices .entry)) (now (links .exit)) (now (holders .exit)) (now (states .exit)) (now (readings .exit)) (now (blocks .exit)) (now (lines .exit)) (now (sent .exit)))) ⌝ }
 {
     let ends = ends_of(book);
     let described = ends.described;
@@ -109,7 +119,7 @@ fn message_in_parts(
     let read = ends.readings;
     let blocked = ends.blocks;
     let lined = ends.lines;
-    message_within(
+    take_within(
         book,
         &element_data[..described],
         &prices[..priced],
@@ -120,7 +130,7 @@ fn message_in_parts(
         &mut blocks[..blocked],
         &mut lines[..lined],
         &mut sent[..lined],
-        records,
+        1024,
         fields,
     )
 }
@@ -209,10 +219,11 @@ fn moved(phase: Phase, over: bool, book: Book, number: u64, next: usize, written
     }
 }
 
-// The book opens, printing its line, or the run is over.
+// The book opens, printing its line, or the run is over; it is over too where the input ends here.
 fn open_book(
     book: Book,
     at: usize,
+    last: bool,
     element_data: &[u8],
     prices: &[i64],
     links: &mut [u64],
@@ -226,7 +237,7 @@ fn open_book(
     from: usize,
 ) -> Advanced
     requires { ⌜ Sized (lentOf (now element_data) (now prices) (now links) (now holders) (now states) (now readings) (now blocks) (now lines) (now sent)) × (from + longestLine ≤ length (now out)) ⌝ }
-    ensures { λ r. ⌜ ((h : Heading) (values : List (List ℕ)) → HoldsValues book (now (element_data .entry)) (now (prices .entry)) h values → Advances (opening at (collected h values) (λ w. messages w 1)) (r .progress) (lentOf (now (element_data .entry)) (now (prices .entry)) (now (links .exit)) (now (holders .exit)) (now (states .exit)) (now (readings .exit)) (now (blocks .exit)) (now (lines .exit)) (now (sent .exit))) (now (out .entry)) (now (out .exit)) (r .next) from (r .written)) × (r .more ≡ false) ⌝ }
+    ensures { λ r. ⌜ ((h : Heading) (values : List (List ℕ)) → HoldsValues book (now (element_data .entry)) (now (prices .entry)) h values → Advances (opening at (collected h values) (openedTo last)) (r .progress) (lentOf (now (element_data .entry)) (now (prices .entry)) (now (links .exit)) (now (holders .exit)) (now (states .exit)) (now (readings .exit)) (now (blocks .exit)) (now (lines .exit)) (now (sent .exit))) (now (out .entry)) (now (out .exit)) (r .next) from (r .written)) × (r .more ≡ false) ⌝ }
 {
     let question = open_tables(
         book,
@@ -244,7 +255,7 @@ fn open_book(
         let days = days_in_month(book.year, book.month);
         let first = first_day(book.year, book.month);
         let written = put_book(out, from, book.year, book.month, days, first);
-        moved(Phase::Messages, false, book, 1, at, written)
+        moved(Phase::Messages, last, book, 1, at, written)
     } else {
         let written = put_refused(out, from, 0, question);
         moved(Phase::Messages, true, book, 1, at, written)
@@ -253,37 +264,459 @@ fn open_book(
 
 // ---- a message
 
-// The record whose six numbers stand from a place of the list on.
-fn record_at(records: &[i64], at: usize) -> Record
-    requires { ⌜ RecordAt (now records) at ⌝ }
-    ensures { λ r. ⌜ ((there : RecordAt (now (records .entry)) at) → r ≡ there .record-there) ⌝ }
-{
-    let kind = records[at];
-    let supplier = records[at + 1];
-    let element = records[at + 2];
-    let quantity = records[at + 3];
-    let kroner = records[at + 4];
-    let billionths = records[at + 5];
-    Record {
-        kind: kind as u64,
-        supplier: supplier as u64,
-        element: element as u64,
-        quantity,
-        kroner,
-        billionths: billionths as u64,
-    }
-}
-
-// The lines of the records at the front of the list. Linear in them.
-fn put_records(out: &mut [u8], from: usize, records: &[i64], count: usize) -> usize
-    requires { ⌜ RecordsAt (now records) count × (from + count * longestLine ≤ length (now out)) ⌝ }
-    ensures { λ r. ⌜ ((there : RecordsAt (now (records .entry)) count) → Written (count * longestLine) (now (out .entry)) (now (out .exit)) from r (recordLines (there .records-there))) ⌝ }
+// The lines of the records of `count` lines whose numbers are listed. Linear in them.
+fn put_records(
+    out: &mut [u8],
+    from: usize,
+    book: Book,
+    lines: &[i64],
+    sent: &[i64],
+    moved: &[u64],
+    count: usize,
+) -> usize
+    requires { ⌜ (0 < count → Settled book (now lines) (now sent) × (book .round ≤ 3)) × ((i : ℕ) → i < count → getD (now moved) i 0 < linesIn book) ⌝ }
+    requires { ⌜ (count ≤ length (now moved)) × (from + count * longestLine ≤ length (now out)) ⌝ }
+    ensures { λ r. ⌜ ((w : World) → IsWorld w book (now (lines .entry)) (now (sent .entry)) → Written (count * longestLine) (now (out .entry)) (now (out .exit)) from r (recordLines (recordsListed w (now (moved .entry)) count))) ⌝ }
 {
     let mut written = from;
     let mut i = 0;
     while i < count {
-        written = put_record(out, written, record_at(records, i * 6));
+        let k = moved[i] as usize;
+        written = put_record(out, written, record_of(book, lines, sent, k));
         i += 1;
     }
     written
+}
+
+// The lines of the records that a message will send.
+fn put_due(
+    book: Book,
+    element_data: &[u8],
+    prices: &[i64],
+    links: &[u64],
+    holders: &[u64],
+    states: &[u64],
+    readings: &[u32],
+    blocks: &[u8],
+    lines: &[i64],
+    sent: &[i64],
+    fields: Fields,
+    out: &mut [u8],
+    from: usize,
+) -> usize
+    requires { ⌜ Sized (lentOf (now element_data) (now prices) (now links) (now holders) (now states) (now readings) (now blocks) (now lines) (now sent)) × (from + longestText ≤ length (now out)) ⌝ }
+    requires { ⌜ Whole (worldIn book (lentOf (now element_data) (now prices) (now links) (now holders) (now states) (now readings) (now blocks) (now lines) (now sent))) × (book .points ≤ 16) ⌝ }
+    ensures { λ r. ⌜ Written longestText (now (out .entry)) (now (out .exit)) from r (recordLines (recordsOf (worldIn book (lentOf (now (element_data .entry)) (now (prices .entry)) (now (links .entry)) (now (holders .entry)) (now (states .entry)) (now (readings .entry)) (now (blocks .entry)) (now (lines .entry)) (now (sent .entry)))) fields recordPlaces)) ⌝ }
+{
+    let ends = ends_of(book);
+    let described = ends.described;
+    let priced = ends.priced;
+    let read = ends.readings;
+    let blocked = ends.blocks;
+    let lined = ends.lines;
+    let mut moved = [0u64; 1024];
+    let count = due_within(
+        book,
+        &element_data[..described],
+        &prices[..priced],
+        links,
+        holders,
+        states,
+        &readings[..read],
+        &blocks[..blocked],
+        &lines[..lined],
+        &sent[..lined],
+        1024,
+        fields,
+        &mut moved,
+    );
+    put_records(
+        out,
+        from,
+        book,
+        &lines[..lined],
+        &sent[..lined],
+        &moved,
+        count,
+    )
+}
+
+// The refusal of a message, or nothing.
+fn put_question(out: &mut [u8], from: usize, message: u64, question: u64) -> usize
+    requires { ⌜ (0 < question → from + longestLine ≤ length (now out)) ⌝ }
+    ensures { λ r. ⌜ Written longestLine (now (out .entry)) (now (out .exit)) from r (cond (eqb question 0) [] (refusedLine message question)) ⌝ }
+{
+    if question == 0 {
+        from
+    } else {
+        put_refused(out, from, message, question)
+    }
+}
+
+// A message of an open book: its records or the refusal are printed, and its number is done with. The caller sees to it that there is a next number.
+fn take_message(
+    book: Book,
+    message: u64,
+    next: usize,
+    element_data: &[u8],
+    prices: &[i64],
+    links: &mut [u64],
+    holders: &mut [u64],
+    states: &mut [u64],
+    readings: &mut [u32],
+    blocks: &mut [u8],
+    lines: &mut [i64],
+    sent: &mut [i64],
+    fields: Fields,
+    out: &mut [u8],
+    from: usize,
+) -> Advanced
+    requires { ⌜ Sized (lentOf (now element_data) (now prices) (now links) (now holders) (now states) (now readings) (now blocks) (now lines) (now sent)) × (from + longestText ≤ length (now out)) × (message < lastNumber) ⌝ }
+    requires { ⌜ Whole (worldIn book (lentOf (now element_data) (now prices) (now links) (now holders) (now states) (now readings) (now blocks) (now lines) (now sent))) × (book .points ≤ 16) ⌝ }
+    ensures { λ r. ⌜ TakesMessage (worldIn book (lentOf (now (element_data .entry)) (now (prices .entry)) (now (links .entry)) (now (holders .entry)) (now (states .entry)) (now (readings .entry)) (now (blocks .entry)) (now (lines .entry)) (now (sent .entry)))) fields message next r (lentOf (now (element_data .entry)) (now (prices .entry)) (now (links .exit)) (now (holders .exit)) (now (states .exit)) (now (readings .exit)) (now (blocks .exit)) (now (lines .exit)) (now (sent .exit))) (now (out .entry)) (now (out .exit)) from × (r .more ≡ false) ⌝ }
+{
+    let printed = put_due(
+        book,
+        element_data,
+        prices,
+        links,
+        holders,
+        states,
+        readings,
+        blocks,
+        lines,
+        sent,
+        fields,
+        out,
+        from,
+    );
+    let reply = take_in_parts(
+        book,
+        element_data,
+        prices,
+        links,
+        holders,
+        states,
+        readings,
+        blocks,
+        lines,
+        sent,
+        fields,
+    );
+    let answer = reply.answer;
+    let written = put_question(out, printed, message, number(answer));
+    let after = reply.book;
+    moved(Phase::Messages, false, after, message + 1, next, written)
+}
+
+// ---- one field, by what may come next
+
+// The run ends with question 1.
+fn refuse(book: Book, at: usize, out: &mut [u8], from: usize) -> Advanced
+    requires { ⌜ from + longestLine ≤ length (now out) ⌝ }
+    ensures { λ r. ⌜ ((t : Lent) → Advances (broken at 1) (r .progress) t (now (out .entry)) (now (out .exit)) (r .next) from (r .written)) × (r .more ≡ false) ⌝ }
+{
+    let written = put_refused(out, from, 0, 1);
+    moved(Phase::Messages, true, book, 1, at, written)
+}
+
+fn month_book(year: u64, month: u64, points: u64, suppliers: u64) -> Book
+    ensures { λ r. ⌜ r ≡ freshBook year month points suppliers 0 ⌝ }
+{
+    Book {
+        year,
+        month,
+        points,
+        suppliers,
+        elements: 0,
+        periods: 0,
+        holders: 0,
+        states: 0,
+        round: 1,
+    }
+}
+
+fn on_start(book: Book, found: Found, at: usize, out: &mut [u8], from: usize) -> Advanced
+    requires { ⌜ (from + longestLine ≤ length (now out)) × (isMore found ≡ false) ⌝ }
+    ensures { λ r. ⌜ ((t : Lent) (bytes : List ℕ) → Advances (moveOn at start found bytes) (r .progress) t (now (out .entry)) (now (out .exit)) (r .next) from (r .written)) × (r .more ≡ false) ⌝ }
+{
+    let Found::Month {
+        year,
+        month,
+        points,
+        suppliers,
+        next,
+    } = found else {
+        return refuse(book, at, out, from);
+    };
+    moved(Phase::Elements, false, month_book(year, month, points, suppliers), 1, next, from)
+}
+
+// One element field more, up to 65.
+fn count_on(book: Book) -> Book
+    ensures { λ r. ⌜ r ≡ counted book ⌝ }
+{
+    let mut next = book;
+    next.elements = if book.elements < 64 { book.elements + 1 } else { 65 };
+    next
+}
+
+// An element's value goes into the tables, where there is room for it.
+fn take_element(
+    book: Book,
+    s: &[u8],
+    start: usize,
+    size: usize,
+    element_data: &mut [u8],
+    prices: &mut [i64],
+) -> Book
+    requires { ⌜ (start + size ≤ length (now s)) × (3 ≤ size) × (length (now element_data) ≡ 192) × (length (now prices) ≡ 1536) ⌝ }
+    ensures { λ r. ⌜ ((h : Heading) (values : List (List ℕ)) → HoldsValues book (now (element_data .entry)) (now (prices .entry)) h values → HoldsValues r (now (element_data .exit)) (now (prices .exit)) h (values ++ (take size (drop start (now (s .entry))) ∷ []))) ⌝ }
+{
+    if book.elements < 64 {
+        let e = book.elements as usize;
+        read_element(s, start, size, element_data, prices, e);
+        count_on(book)
+    } else {
+        count_on(book)
+    }
+}
+
+fn is_more(found: Found) -> bool
+    ensures { λ r. ⌜ r ≡ isMore found ⌝ }
+{
+    if let Found::More = found { true } else { false }
+}
+
+fn is_end(found: Found) -> bool
+    ensures { λ r. ⌜ r ≡ isEnd found ⌝ }
+{
+    if let Found::End = found { true } else { false }
+}
+
+// "The book opens .. at the first whole message field or the end."
+fn opens_book(found: Found) -> bool
+    ensures { λ r. ⌜ r ≡ opensBook found ⌝ }
+{
+    if let Found::Message { fields, next } = found {
+        true
+    } else {
+        is_end(found)
+    }
+}
+
+// An element, or a field that is not in its place.
+fn gather(
+    book: Book,
+    found: Found,
+    s: &[u8],
+    at: usize,
+    element_data: &mut [u8],
+    prices: &mut [i64],
+    out: &mut [u8],
+    from: usize,
+) -> Advanced
+    requires { ⌜ (length (now element_data) ≡ 192) × (length (now prices) ≡ 1536) × (from + longestLine ≤ length (now out)) ⌝ }
+    requires { ⌜ Inside at (length (now s)) found × (isMore found ≡ false) × (opensBook found ≡ false) ⌝ }
+    ensures { λ r. ⌜ ((h : Heading) (values : List (List ℕ)) (links holders states readings blocks : List ℕ) (lines sent : List ℤ) → HoldsValues book (now (element_data .entry)) (now (prices .entry)) h values → Advances (moveOn at (elements h values) found (now (s .entry))) (r .progress) (lentOf (now (element_data .exit)) (now (prices .exit)) links holders states readings blocks lines sent) (now (out .entry)) (now (out .exit)) (r .next) from (r .written)) × (r .more ≡ false) ⌝ }
+{
+    let Found::Element {
+        start,
+        length,
+        next,
+    } = found else {
+        return refuse(book, at, out, from);
+    };
+    let after = take_element(book, s, start, length, element_data, prices);
+    moved(Phase::Elements, false, after, 1, next, from)
+}
+
+fn on_elements(
+    book: Book,
+    found: Found,
+    s: &[u8],
+    at: usize,
+    element_data: &mut [u8],
+    prices: &mut [i64],
+    links: &mut [u64],
+    holders: &mut [u64],
+    states: &mut [u64],
+    readings: &mut [u32],
+    blocks: &mut [u8],
+    lines: &mut [i64],
+    sent: &mut [i64],
+    out: &mut [u8],
+    from: usize,
+) -> Advanced
+    requires { ⌜ Sized (lentOf (now element_data) (now prices) (now links) (now holders) (now states) (now readings) (now blocks) (now lines) (now sent)) × (from + longestLine ≤ length (now out)) ⌝ }
+    requires { ⌜ Inside at (length (now s)) found × (isMore found ≡ false) ⌝ }
+    ensures { λ r. ⌜ ((h : Heading) (values : List (List ℕ)) → HoldsValues book (now (element_data .entry)) (now (prices .entry)) h values → Advances (moveOn at (elements h values) found (now (s .entry))) (r .progress) (lentOf (now (element_data .exit)) (now (prices .exit)) (now (links .exit)) (now (holders .exit)) (now (states .exit)) (now (readings .exit)) (now (blocks .exit)) (now (lines .exit)) (now (sent .exit))) (now (out .entry)) (now (out .exit)) (r .next) from (r .written)) × (r .more ≡ false) ⌝ }
+{
+    if opens_book(found) {
+        let last = is_end(found);
+        open_book(
+            book,
+            at,
+            last,
+            element_data,
+            prices,
+            links,
+            holders,
+            states,
+            readings,
+            blocks,
+            lines,
+            sent,
+            out,
+            from,
+        )
+    } else {
+        gather(book, found, s, at, element_data, prices, out, from)
+    }
+}
+
+// The end, or a field that is not in its place.
+fn finish(book: Book, found: Found, at: usize, out: &mut [u8], from: usize) -> Advanced
+    requires { ⌜ (from + longestLine ≤ length (now out)) × (isMore found ≡ false) ⌝ }
+    ensures { λ r. ⌜ ((t : Lent) (w : World) (n : ℕ) (bytes : List ℕ) → opensBook found ≡ isEnd found → Advances (moveOn at (messages w n) found bytes) (r .progress) t (now (out .entry)) (now (out .exit)) (r .next) from (r .written)) × (r .more ≡ false) ⌝ }
+{
+    if is_end(found) {
+        moved(Phase::Messages, true, book, 1, at, from)
+    } else {
+        refuse(book, at, out, from)
+    }
+}
+
+fn on_messages(
+    book: Book,
+    number: u64,
+    found: Found,
+    at: usize,
+    element_data: &[u8],
+    prices: &[i64],
+    links: &mut [u64],
+    holders: &mut [u64],
+    states: &mut [u64],
+    readings: &mut [u32],
+    blocks: &mut [u8],
+    lines: &mut [i64],
+    sent: &mut [i64],
+    out: &mut [u8],
+    from: usize,
+) -> Advanced
+    requires { ⌜ Sized (lentOf (now element_data) (now prices) (now links) (now holders) (now states) (now readings) (now blocks) (now lines) (now sent)) × (from + longestText ≤ length (now out)) × (number < lastNumber) ⌝ }
+    requires { ⌜ Whole (worldIn book (lentOf (now element_data) (now prices) (now links) (now holders) (now states) (now readings) (now blocks) (now lines) (now sent))) × (book .points ≤ 16) × (isMore found ≡ false) ⌝ }
+    ensures { λ r. ⌜ ((bytes : List ℕ) → Advances (moveOn at (messages (worldIn book (lentOf (now (element_data .entry)) (now (prices .entry)) (now (links .entry)) (now (holders .entry)) (now (states .entry)) (now (readings .entry)) (now (blocks .entry)) (now (lines .entry)) (now (sent .entry)))) number) found bytes) (r .progress) (lentOf (now (element_data .entry)) (now (prices .entry)) (now (links .exit)) (now (holders .exit)) (now (states .exit)) (now (readings .exit)) (now (blocks .exit)) (now (lines .exit)) (now (sent .exit))) (now (out .entry)) (now (out .exit)) (r .next) from (r .written)) × (r .more ≡ false) ⌝ }
+{
+    let Found::Message { fields, next } = found else {
+        return finish(book, found, at, out, from);
+    };
+    take_message(
+        book,
+        number,
+        next,
+        element_data,
+        prices,
+        links,
+        holders,
+        states,
+        readings,
+        blocks,
+        lines,
+        sent,
+        fields,
+        out,
+        from,
+    )
+}
+
+fn waiting(progress: Progress, at: usize, from: usize) -> Advanced
+    ensures { λ r. ⌜ r ≡ waitsAt progress at from ⌝ }
+{
+    Advanced {
+        progress,
+        next: at,
+        written: from,
+        more: true,
+    }
+}
+
+// Before the first field.
+pub fn begin() -> Progress
+    ensures { λ r. ⌜ ((t : Lent) → Holds r t start) × (r .number ≡ 1) ⌝ }
+{
+    Progress {
+        phase: Phase::Start,
+        over: false,
+        book: month_book(0, 0, 0, 0),
+        number: 1,
+    }
+}
+
+// Takes the field at a place of the bytes in hand, and puts what it prints at a place of the output. `ended` says whether the input ends with
+// those bytes. The caller sees to it that the run is not over and that there is a next message number.
+pub fn advance(
+    progress: Progress,
+    s: &[u8],
+    at: usize,
+    ended: bool,
+    element_data: &mut [u8],
+    prices: &mut [i64],
+    links: &mut [u64],
+    holders: &mut [u64],
+    states: &mut [u64],
+    readings: &mut [u32],
+    blocks: &mut [u8],
+    lines: &mut [i64],
+    sent: &mut [i64],
+    out: &mut [u8],
+    from: usize,
+) -> Advanced
+    requires { ⌜ Sized (lentOf (now element_data) (now prices) (now links) (now holders) (now states) (now readings) (now blocks) (now lines) (now sent)) × (at ≤ length (now s)) × (from + longestText ≤ length (now out)) ⌝ }
+    requires { ⌜ Stands progress (lentOf (now element_data) (now prices) (now links) (now holders) (now states) (now readings) (now blocks) (now lines) (now sent)) × (progress .over ≡ false) × (progress .number < lastNumber) ⌝ }
+    ensures { λ r. ⌜ ((stage : Stage) → Holds progress (lentOf (now (element_data .entry)) (now (prices .entry)) (now (links .entry)) (now (holders .entry)) (now (states .entry)) (now (readings .entry)) (now (blocks .entry)) (now (lines .entry)) (now (sent .entry))) stage → Advances (moveOn at stage (foundAt (now (s .entry)) at (progress .phase) ended) (now (s .entry))) (r .progress) (lentOf (now (element_data .exit)) (now (prices .exit)) (now (links .exit)) (now (holders .exit)) (now (states .exit)) (now (readings .exit)) (now (blocks .exit)) (now (lines .exit)) (now (sent .exit))) (now (out .entry)) (now (out .exit)) (r .next) from (r .written)) × (r .more ≡ isMore (foundAt (now (s .entry)) at (progress .phase) ended)) ⌝ }
+{
+    let phase = progress.phase;
+    let found = find(s, at, phase, ended);
+    if is_more(found) {
+        return waiting(progress, at, from);
+    }
+    let book = progress.book;
+    match phase {
+        Phase::Start => on_start(book, found, at, out, from),
+        Phase::Elements => on_elements(
+            book,
+            found,
+            s,
+            at,
+            element_data,
+            prices,
+            links,
+            holders,
+            states,
+            readings,
+            blocks,
+            lines,
+            sent,
+            out,
+            from,
+        ),
+        Phase::Messages => on_messages(
+            book,
+            progress.number,
+            found,
+            at,
+            element_data,
+            prices,
+            links,
+            holders,
+            states,
+            readings,
+            blocks,
+            lines,
+            sent,
+            out,
+            from,
+        ),
+    }
 }

@@ -64,7 +64,7 @@ same-length-8 c = search needs
 returns : tie.Need-returns
 returns c =
     let a = c .before .before .before .before .before .before .before .before .before .before .before .before .before .before .before .before .before .before .before .before .before .before .before .before .before .before .before .before .before .before .before .before .before .before .before .args in
-    (λ h values v. book-opens (a .book) (lentOf (a .element-data .now) (a .prices .now) (a .links .now) (a .holders .now) (a .states .now) (a .readings .now) (a .blocks .now) (a .lines .now) (a .sent .now)) _ (c .before .before .before .before .before .before .before .before .before .before .before .before .before .before .before .before .before .before .before .before .open-tables .result) (c .before .before .before .before .before .before .before .before .before .before .before .before .before .before .before .before .before .before .before .before .open-tables .ensures) h values v _ _ (a .at) (a .from) (c .before .before .before .put-book .result) (c .moved .result) (c .before .before .before .before .before .before .before .if1 .taken) (c .before .before .before .before .before .before .days-in-month .result) (c .before .before .before .before .before .first-day .result) (c .before .before .before .before .before .before .days-in-month .ensures) (c .before .before .before .before .before .first-day .ensures) (c .before .before .before .put-book .ensures) (c .moved .ensures), ap (λ (r : Advanced). r .more) (c .moved .ensures))
+    (λ h values v. book-opens (a .book) (lentOf (a .element-data .now) (a .prices .now) (a .links .now) (a .holders .now) (a .states .now) (a .readings .now) (a .blocks .now) (a .lines .now) (a .sent .now)) _ (c .before .before .before .before .before .before .before .before .before .before .before .before .before .before .before .before .before .before .before .before .open-tables .result) (c .before .before .before .before .before .before .before .before .before .before .before .before .before .before .before .before .before .before .before .before .open-tables .ensures) h values v _ _ (a .at) (a .from) (c .before .before .before .put-book .result) (a .last) (c .moved .result) (c .before .before .before .before .before .before .before .if1 .taken) (c .before .before .before .before .before .before .days-in-month .result) (c .before .before .before .before .before .first-day .result) (c .before .before .before .before .before .before .days-in-month .ensures) (c .before .before .before .before .before .first-day .ensures) (c .before .before .before .put-book .ensures) (c .moved .ensures), ap (λ (r : Advanced). r .more) (c .moved .ensures))
 
 same-length-9 : tie.Need-same-length-9
 same-length-9 c = search needs
@@ -93,7 +93,7 @@ same-length-16 c = search needs
 returns-2 : tie.Need-returns-2
 returns-2 c =
     let a = c .before .before .before .before .before .before .before .before .before .before .before .before .before .before .before .before .before .before .before .before .before .before .before .before .before .before .before .before .before .before .before .before .before .args in
-    (λ h values v. book-stays (a .book) (lentOf (a .element-data .now) (a .prices .now) (a .links .now) (a .holders .now) (a .states .now) (a .readings .now) (a .blocks .now) (a .lines .now) (a .sent .now)) _ (c .before .before .before .before .before .before .before .before .before .before .before .before .before .before .before .before .before .before .open-tables .result) (c .before .before .before .before .before .before .before .before .before .before .before .before .before .before .before .before .before .before .open-tables .ensures) h values v _ _ (a .at) (a .from) (c .before .before .before .put-refused .result) (c .moved2 .result) (c .before .before .before .before .before .if1 .left) (c .before .before .before .put-refused .ensures) (c .moved2 .ensures), ap (λ (r : Advanced). r .more) (c .moved2 .ensures))
+    (λ h values v. book-stays (a .book) (lentOf (a .element-data .now) (a .prices .now) (a .links .now) (a .holders .now) (a .states .now) (a .readings .now) (a .blocks .now) (a .lines .now) (a .sent .now)) _ (c .before .before .before .before .before .before .before .before .before .before .before .before .before .before .before .before .before .before .open-tables .result) (c .before .before .before .before .before .before .before .before .before .before .before .before .before .before .before .before .before .before .open-tables .ensures) h values v _ _ (a .at) (a .from) (c .before .before .before .put-refused .result) (a .last) (c .moved2 .result) (c .before .before .before .before .before .if1 .left) (c .before .before .before .put-refused .ensures) (c .moved2 .ensures), ap (λ (r : Advanced). r .more) (c .moved2 .ensures))
 
 pub open-book-spec : {M : Type 1} → statement M
 open-book-spec =

@@ -1,0 +1,73 @@
+-- An element's value put into the tables behind those before it: the tables' fronts are the values' bytes and prices. Assumes nothing.
+use Prim.Native.Nat.{ℕ, suc, _+_, _*_, _≤_, _<_, min}
+use native.Mathlib.Omega.{arith}
+use mathlib.Core.Path.{_≡_, refl, sym, ap, ap₂, _∙_}
+use mathlib.Core.List.{List, [], _∷_, _++_, append-assoc, append-nil}
+use lib.IntN.{ℤ}
+use lib.ListN.{length, take, drop, length-append}
+use lib.Seq.{length-take-le, take-at}
+use Rattle.rules.specs.declared.Book.{Book}
+use Rattle.rules.specs.World.{pricePlaces}
+use Rattle.rules.proofs.Ranges.{length-listTo}
+use Rattle.queries.specs.Promises.{freshBook}
+use Rattle.wire.specs.Bytes.{placed}
+use Rattle.wire.specs.Element.{priceAt, pricesOf, elementBytes, elementPrices}
+use Rattle.wire.specs.Program.{Heading, describedAll, pricesAll}
+use Rattle.runner.specs.Holding.{HoldsValues, counted}
+
+-- the front of a list up to the end of what was placed in it
+pub placed-front : {A : Type 0} (xs : List A) (at : ℕ) (ys : List A) (n : ℕ) → at ≤ length xs → n ≡ at + length ys → take n (placed xs at ys) ≡ take at xs ++ ys
+unfolding placed
+placed-front xs at ys n h e =
+    let l : length (take at xs ++ ys) ≡ n = length-append (take at xs) ys ∙ ap (λ k. k + length ys) (length-take-le at xs h) ∙ sym e in
+    take-at (take at xs ++ ys) (drop (at + length ys) xs) n l
+
+described-more : (values : List (List ℕ)) (value : List ℕ) → describedAll (values ++ (value ∷ [])) ≡ describedAll values ++ take 3 value
+unfolding describedAll
+described-more [] value = append-nil (take 3 value)
+described-more (v ∷ values) value = ap (λ (l : List ℕ). take 3 v ++ l) (described-more values value) ∙ sym (append-assoc (take 3 v) (describedAll values) (take 3 value))
+
+prices-more : (values : List (List ℕ)) (value : List ℕ) → pricesAll (values ++ (value ∷ [])) ≡ pricesAll values ++ pricesOf value
+unfolding pricesAll
+prices-more [] value = append-nil (pricesOf value)
+prices-more (v ∷ values) value = ap (λ (l : List ℤ). pricesOf v ++ l) (prices-more values value) ∙ sym (append-assoc (pricesOf v) (pricesAll values) (pricesOf value))
+
+length-more : (values : List (List ℕ)) (value : List ℕ) → length (values ++ (value ∷ [])) ≡ length values + 1
+length-more values value = length-append values (value ∷ [])
+
+prices-long : (value : List ℕ) → length (pricesOf value) ≡ 24
+unfolding pricesOf
+prices-long value = length-listTo (priceAt value) 24
+
+counted-more : (n : ℕ) → min 65 (min 65 n + 1) ≡ min 65 (n + 1)
+counted-more n = omega arith
+
+module _ (b : Book) (ds : List ℕ) (ps : List ℤ) (h : Heading) (values : List (List ℕ)) (v : HoldsValues b ds ps h values) (value : List ℕ) (r : Book) (c : r ≡ counted b) where
+  book-more : r ≡ freshBook (h .year) (h .month) (h .points) (h .suppliers) (min 65 (length (values ++ (value ∷ []))))
+  book-more = c ∙ rw (v .book, length-more values value, counted-more (length values))
+
+  -- there is room for it
+  pub value-read : b .elements < 64 → 3 ≤ length value → length ds ≡ 192 → length ps ≡ 1536 → (ds′ : List ℕ) (ps′ : List ℤ) → ds′ ≡ elementBytes ds (b .elements) value → ps′ ≡ elementPrices ps (b .elements) value
+      → HoldsValues r ds′ ps′ h (values ++ (value ∷ []))
+  unfolding elementBytes elementPrices
+  value-read k m ld lp ds′ ps′ d p =
+      let n = length values in
+      let e : b .elements ≡ min 65 n = ap (λ (x : Book). x .elements) (v .book) in
+      let z : b .elements ≡ n = omega arith in
+      let l : n ≤ 64 = omega arith in
+      let t : length (take 3 value) ≡ 3 = length-take-le 3 value m in
+      record {
+        book = book-more;
+        described = λ q. rw (d, z, length-more values value, described-more values value, ← v .described l)
+          (placed-front ds (n * 3) (take 3 value) ((n + 1) * 3) (omega arith) (omega (arith, t)));
+        priced = λ q. rw (p, z, length-more values value, prices-more values value, ← v .priced l)
+          (placed-front ps (n * 24) (pricesOf value) ((n + 1) * 24) (omega arith) (omega (arith, prices-long value)));
+      }
+
+  -- there is none
+  pub value-dropped : 64 ≤ b .elements → HoldsValues r ds ps h (values ++ (value ∷ []))
+  value-dropped k =
+      let n = length values in
+      let e : b .elements ≡ min 65 n = ap (λ (x : Book). x .elements) (v .book) in
+      let l = length-more values value in
+      record { book = book-more; described = λ q. absurd (omega arith); priced = λ q. absurd (omega arith) }

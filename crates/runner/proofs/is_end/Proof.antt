@@ -1,0 +1,23 @@
+-- `is_end` meets its contract: by the case of what was found.
+use mathlib.Core.Path.{sym, ap}
+use Rattle.runner.specs.Stages.{isEnd}
+use Rattle.runner.proofs.FoundLaws.{not-end}
+use native.Mathlib.Omega.{arith}
+use borrow.Author.Needs.{needs}
+use Rattle.runner.proofs.is_end.Statement.{statement}
+use Rattle.runner.proofs.is_end.Tie as tie
+use Rattle.runner.proofs.is_end.Reads as reads
+use Rattle.runner.proofs.is_end.Lts as lts
+
+enum-told : tie.Need-enum-told
+enum-told c = search needs
+
+returns : tie.Need-returns
+unfolding isEnd
+returns c = rw (c .enum-told .given .1)
+
+returns-2 : tie.Need-returns-2
+returns-2 c = sym (not-end (c .before .args .found) (c .match .keys2))
+
+pub is-end-spec : {M : Type 1} → statement M
+is-end-spec = tie.close (tie.spec enum-told returns returns-2)

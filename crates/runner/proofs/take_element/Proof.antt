@@ -1,0 +1,54 @@
+-- `take_element` meets its contract: the value is stored behind those before it, where there is room.
+use mathlib.Core.Path.{_≡_}
+use lib.ListN.{length, take, drop, length-drop}
+use lib.Seq.{length-take-le}
+use Prim.Native.Nat.{_≤_}
+use Rattle.runner.proofs.ValueLaws.{value-read, value-dropped}
+use native.Mathlib.Omega.{arith}
+use borrow.Author.Needs.{needs}
+use Rattle.runner.proofs.take_element.Statement.{statement}
+use Rattle.runner.proofs.take_element.Tie as tie
+use Rattle.runner.proofs.take_element.Reads as reads
+use Rattle.runner.proofs.take_element.Lts as lts
+use Rattle.runner.proofs.count_on.Reads as count-on-reads
+use Rattle.wire.proofs.read_element.Reads as read-element-reads
+
+read-element-requires : tie.Need-read-element-requires
+read-element-requires c κs = search needs
+
+count-on-requires : tie.Need-count-on-requires
+count-on-requires c κs = search needs
+
+count-on-requires-2 : tie.Need-count-on-requires-2
+count-on-requires-2 c κs = search needs
+
+same-length : tie.Need-same-length
+same-length c = search needs
+
+same-length-2 : tie.Need-same-length-2
+same-length-2 c = search needs
+
+returns : tie.Need-returns
+returns c =
+    let a = c .before .before .before .before .before .before .before .before .before .before .before .args in
+    let p = c .before .before .before .before .before .before .before .before .before .before .before .pre in
+    let e = c .before .before .before .before .read-element .ensures in
+    let m : length (take (a .size) (drop (a .start) (a .s .now))) ≡ a .size = length-take-le (a .size) (drop (a .start) (a .s .now)) (rw length-drop (omega arith)) in
+    λ h values v. value-read (a .book) _ _ h values v _ (c .count-on .result) (c .count-on .ensures) (c .before .before .before .before .before .before .before .if1 .taken) (omega arith) (p .2) (p .3) _ _ (e .0) (e .1)
+
+returns-2 : tie.Need-returns-2
+returns-2 c =
+    let a = c .before .before .before .before .before .args in
+    λ h values v. value-dropped (a .book) _ _ h values v _ (c .count-on2 .result) (c .count-on2 .ensures) (c .before .if1 .left)
+
+pub take-element-spec : {M : Type 1} → statement M
+take-element-spec =
+    tie.close
+    (tie.spec
+    read-element-requires
+    count-on-requires
+    count-on-requires-2
+    same-length
+    same-length-2
+    returns
+    returns-2)
