@@ -1,11 +1,10 @@
 -- What each case of the code leaves is what the field does. Assumes nothing.
-use Prim.Native.Nat.{ℕ, suc, _+_, _*_, _≤_, _<_, min}
+use Prim.Native.Nat.{ℕ, _+_, _≤_}
 use native.Mathlib.Omega.{arith}
 use mathlib.Core.Path.{_≡_, refl, sym, ap, subst, _∙_}
-use mathlib.Core.Bool.{Bool, true, false}
+use mathlib.Core.Bool.{true, false}
 use mathlib.Core.List.{List, [], _∷_, _++_}
-use lib.IntN.{ℤ}
-use lib.ListN.{length, take, drop}
+use lib.ListN.{take, drop}
 use Rattle.rules.specs.declared.Book.{Book}
 use Rattle.rules.specs.declared.Fields.{Fields}
 use Rattle.rules.specs.World.{World}
@@ -19,9 +18,9 @@ use Rattle.wire.specs.Program.{endedBy, Heading, describedAll, pricesAll}
 use Rattle.wire.proofs.PlacedLaws.{loosened}
 use Rattle.runner.specs.declared.Progress.{Progress}
 use Rattle.runner.specs.declared.Advanced.{Advanced}
-use Rattle.runner.specs.Stages.{Stage, start, elements, messages, over, quiet, broken, moveOn}
+use Rattle.runner.specs.Stages.{Stage, start, elements, messages, over, quiet, broken, moveOn, isMore}
 use Rattle.runner.specs.Parts.{Lent, worldIn}
-use Rattle.runner.specs.Holding.{HoldsValues, HoldsBook, Holds, longestText, Advances, advancedTo, TakesMessage}
+use Rattle.runner.specs.Holding.{HoldsValues, Holds, longestText, Advances, advancedTo, waitsAt, TakesMessage}
 use Rattle.runner.proofs.StageLaws.{never}
 use Rattle.runner.proofs.TextLaws.{nothing-written}
 
@@ -60,9 +59,73 @@ unfolding moveOn worldIn
 arm-message at next number f bytes b t t′ out after from r k m =
     let z = m .made in
     record {
-      holds = (ap (λ (x : Advanced). x .progress .over) z, ap (λ (x : Advanced). x .progress .phase) z,
+      holds = (
+        ap (λ (x : Advanced). x .progress .over) z,
+        ap (λ (x : Advanced). x .progress .phase) z,
         record { world = sym (m .world); whole = subst (λ (x : World). Whole x) (m .world) (m .whole); points = rw (m .points) k },
-        ap (λ (x : Advanced). x .progress .number) z);
+        ap (λ (x : Advanced). x .progress .number) z,
+      );
       text = m .text;
       place = ap (λ (x : Advanced). x .next) z;
     }
+
+-- ---- more bytes are needed
+
+pub wait-move : (at : ℕ) (stage : Stage) (f : Found) (bytes : List ℕ) → isMore f ≡ true → moveOn at stage f bytes ≡ quiet stage at
+unfolding moveOn isMore
+wait-move at start More bytes m = refl
+wait-move at (elements h values) More bytes m = refl
+wait-move at (messages w n) More bytes m = refl
+wait-move at over More bytes m = refl
+wait-move at stage (Month year month points suppliers next) bytes m = never (sym m)
+wait-move at stage (Element from size next) bytes m = never (sym m)
+wait-move at stage (Message f next) bytes m = never (sym m)
+wait-move at stage End bytes m = never (sym m)
+wait-move at stage Broken bytes m = never (sym m)
+
+pub arm-waits : (at : ℕ) (stage : Stage) (f : Found) (bytes : List ℕ) (p : Progress) (t : Lent) (out : List ℕ) (from : ℕ) (r : Advanced) → isMore f ≡ true → Holds p t stage → r ≡ waitsAt p at from
+    → Advances (moveOn at stage f bytes) (r .progress) t out out (r .next) from (r .written)
+arm-waits at stage f bytes p t out from r m h e = rw (wait-move at stage f bytes m, e) (record { holds = h; text = nothing-written longestText out from; place = refl })
+
+-- ---- the stage, by what may come next
+
+start-elements : {P : Type 0} → Phase.Start ≡ Phase.Elements → P
+start-elements e = let z : _≡_ {A = ℕ} 0 1 = cc in absurd (omega arith)
+
+start-messages : {P : Type 0} → Phase.Start ≡ Phase.Messages → P
+start-messages e = let z : _≡_ {A = ℕ} 0 1 = cc in absurd (omega arith)
+
+elements-messages : {P : Type 0} → Phase.Elements ≡ Phase.Messages → P
+elements-messages e = let z : _≡_ {A = ℕ} 0 1 = cc in absurd (omega arith)
+
+module _ (p : Progress) (t : Lent) (o : p .over ≡ false) where
+  pub stage-start : p .phase ≡ Phase.Start → (stage : Stage) → Holds p t stage → stage ≡ start
+  stage-start e start h = refl
+  stage-start e (elements g values) h = start-elements (sym e ∙ h .1)
+  stage-start e (messages w n) h = start-messages (sym e ∙ h .1)
+  stage-start e over h = never (sym h ∙ o)
+
+  pub record InElements (stage : Stage) : Type 0 where
+    pub heading : Heading
+    pub values : List (List ℕ)
+    pub is : stage ≡ elements heading values
+    pub holds : HoldsValues (p .book) (t .elementData) (t .prices) heading values
+
+  pub stage-elements : p .phase ≡ Phase.Elements → (stage : Stage) → Holds p t stage → InElements stage
+  stage-elements e start h = start-elements (sym (h .1) ∙ e)
+  stage-elements e (elements g values) h = record { heading = g; values = values; is = refl; holds = h .2 }
+  stage-elements e (messages w n) h = elements-messages (sym e ∙ h .1)
+  stage-elements e over h = never (sym h ∙ o)
+
+  pub record InMessages (stage : Stage) : Type 0 where
+    pub is : stage ≡ messages (worldIn (p .book) t) (p .number)
+    pub whole : Whole (worldIn (p .book) t)
+    pub points : p .book .points ≤ 16
+
+  pub stage-messages : p .phase ≡ Phase.Messages → (stage : Stage) → Holds p t stage → InMessages stage
+  stage-messages e start h = start-messages (sym (h .1) ∙ e)
+  stage-messages e (elements g values) h = elements-messages (sym (h .1) ∙ e)
+  stage-messages e (messages w n) h =
+      let b = h .2 in
+      record { is = rw (b .world, h .3); whole = subst (λ (x : World). Whole x) (b .world) (b .whole); points = b .points }
+  stage-messages e over h = never (sym h ∙ o)

@@ -2,7 +2,7 @@
 use Prim.Native.Nat.{ℕ, _+_, _≤_}
 use native.Mathlib.Omega.{arith}
 use mathlib.Core.Path.{_≡_, refl, sym}
-use mathlib.Core.Bool.{Bool, true, false}
+use mathlib.Core.Bool.{true, false}
 use mathlib.Core.Logic.{⊎-elim}
 use mathlib.Core.List.{List, [], _∷_}
 use types.Run.{OneOf}
@@ -13,7 +13,7 @@ use Rattle.wire.specs.declared.Found.the-variants.{Month, Element, Message, End
 use Rattle.wire.specs.Field.{Inside}
 use Rattle.wire.specs.Program.{Heading, collected}
 use Rattle.wire.proofs.Found.{the-type}
-use Rattle.runner.specs.Stages.{Stage, start, elements, messages, over, quiet, broken, openedTo, opening, moveOn, isMore, isEnd, opensBook}
+use Rattle.runner.specs.Stages.{start, elements, messages, over, quiet, broken, openedTo, opening, moveOn, isMore, isEnd, opensBook}
 use Rattle.runner.proofs.StageLaws.{never}
 
 -- a number that is none of five

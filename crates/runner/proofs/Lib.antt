@@ -6,3 +6,4 @@ pub mod TextLaws
 pub mod FoundLaws
 pub mod ArmLaws
 pub mod ValueLaws
+pub mod RunLaws

@@ -1,13 +1,12 @@
 -- The opening: what `settle` answers is what the tables' own opening answers, and a book that opens finds them as the rules say. Assumes nothing.
-use Prim.Native.Nat.{ℕ, _+_, _*_, _≤_, _<_, min}
+use Prim.Native.Nat.{ℕ, _*_, _≤_, _<_, min}
 use native.Mathlib.Omega.{arith}
-use mathlib.Core.Path.{_≡_, refl, sym, ap, subst, _∙_}
+use mathlib.Core.Path.{_≡_, refl, sym, ap, _∙_}
 use mathlib.Core.Logic.{_≢_}
-use mathlib.Core.Bool.{Bool, true, false, _&&_, cond}
-use mathlib.Core.List.{List, [], _∷_, _++_}
-use mathlib.Core.Option.{some}
+use mathlib.Core.Bool.{Bool, true, false}
+use mathlib.Core.List.{List}
 use lib.IntN.{ℤ, pos}
-use lib.ListN.{length, take, drop, replicate, length-replicate}
+use lib.ListN.{length, take, length-replicate}
 use lib.Seq.{length-take-le}
 use lib.Dec.{leb, eqb}
 use borrow.Author.Tests.{eq-eqb, ne-eqb, le-leb, leb-true, leb-false}
@@ -16,7 +15,7 @@ use Rattle.rules.specs.declared.Book.{Book}
 use Rattle.rules.specs.declared.Opened.{Opened}
 use Rattle.rules.specs.Answers.{openedNumber}
 use Rattle.rules.specs.Basics.{within}
-use Rattle.rules.specs.World.{Opening, World, worldOf, tableOf, monthDays, monthFirst, lineCount}
+use Rattle.rules.specs.World.{Opening, World, tableOf, monthDays, monthFirst, lineCount}
 use Rattle.rules.specs.WellFormed.{withinLimits, rowsFit, openingSized, tablesSized, linesSized, readingCount, linePlaces, question2, question3, question4}
 use Rattle.rules.specs.Opening.{openingAnswer, opened, afterOpening}
 use Rattle.rules.specs.Effects.{ask}
@@ -24,10 +23,10 @@ use Rattle.rules.proofs.Tests.{cases, both}
 use Rattle.rules.proofs.Parts.{Limits, limits, Whole}
 use Rattle.rules.proofs.Passed.{asked-passed}
 use Rattle.rules.proofs.Begin.{passed, begin-whole}
-use Rattle.queries.specs.Promises.{freshBook, OpenedAs}
+use Rattle.queries.specs.Promises.{OpenedAs}
 use Rattle.wire.specs.declared.Phase.{Phase}
 use Rattle.wire.specs.Lines.{bookLine, refusedLine, longestLine, Written}
-use Rattle.wire.specs.Program.{endedBy, Heading, describedAll, pricesAll, collected, lent, settleAnswer}
+use Rattle.wire.specs.Program.{endedBy, Heading, collected, lent, settleAnswer}
 use Rattle.wire.proofs.PlacedLaws.{loosened}
 use Rattle.runner.specs.declared.Ends.{Ends}
 use Rattle.runner.specs.declared.Advanced.{Advanced}
@@ -112,24 +111,24 @@ module _ (b : Book) (t : Lent) (s : Sized t) (g : Fitted b) where
       (lb : length bs ≡ length (take (e .blocks) (t .blocks)))
       (ll : length ns ≡ length (take (e .lines) (t .lines)))
       (lt : length ts ≡ length (take (e .lines) (t .sent)))
-      where
-    opened-by : opened (worldIn (anew b) t) ≡ opened (lent (openingIn b t))
-    unfolding opened lent worldIn endsOf
-    opened-by = refl
+    where
+      opened-by : opened (worldIn (anew b) t) ≡ opened (lent (openingIn b t))
+      unfolding opened lent worldIn endsOf
+      opened-by = refl
 
-    pub open-done : (r : Opened) (question : ℕ) → question ≡ openedNumber r
-        → OpenedAs (partsOf b t e q (anew b) (t .links) (t .holders) (t .states) (take (e .readings) (t .readings)) (take (e .blocks) (t .blocks)) (take (e .lines) (t .lines)) (take (e .lines) (t .sent))) (partsOf b t e q (anew b) links holders states rs bs ns ts) r
-        → OpensTables b (openingIn b t) (after b t e q s g (anew b) links holders states rs bs ns ts lr lb ll lt) question
-    unfolding endsOf afterOpening
-    open-done r question n p =
-        let w = parts-are (anew b) t e q in
-        let a : openedNumber r ≡ openingAnswer (worldIn (anew b) t) = p .number ∙ ap openingAnswer (sym w) in
-        record {
-          answer = n ∙ a ∙ same-answer;
-          world = λ z.
-            parts-back b t e q s g (anew b) links holders states rs bs ns ts lr lb ll lt refl
-            ∙ p .world ∙ ap afterOpening (sym w) ∙ rw (same-answer, z) opened-by;
-        }
+      pub open-done : (r : Opened) (question : ℕ) → question ≡ openedNumber r
+          → OpenedAs (partsOf b t e q (anew b) (t .links) (t .holders) (t .states) (take (e .readings) (t .readings)) (take (e .blocks) (t .blocks)) (take (e .lines) (t .lines)) (take (e .lines) (t .sent))) (partsOf b t e q (anew b) links holders states rs bs ns ts) r
+          → OpensTables b (openingIn b t) (after b t e q s g (anew b) links holders states rs bs ns ts lr lb ll lt) question
+      unfolding endsOf afterOpening
+      open-done r question n p =
+          let w = parts-are (anew b) t e q in
+          let a : openedNumber r ≡ openingAnswer (worldIn (anew b) t) = p .number ∙ ap openingAnswer (sym w) in
+          record {
+            answer = n ∙ a ∙ same-answer;
+            world = λ z.
+                parts-back b t e q s g (anew b) links holders states rs bs ns ts lr lb ll lt refl
+                ∙ p .world ∙ ap afterOpening (sym w) ∙ rw (same-answer, z) opened-by;
+          }
 
 -- the table's test says no
 pub open-refused : (b : Book) (t : Lent) → isFitted b ≡ false → OpensTables b (openingIn b t) t 2
@@ -176,35 +175,35 @@ open-points b t h = settles (openingIn b t) h .points
 
 module _ (b : Book) (t t′ : Lent) (question : ℕ) (p : OpensTables b (openingIn b t) t′ question) (h : Heading) (values : List (List ℕ)) (v : HoldsValues b (t .elementData) (t .prices) h values)
     (out out′ : List ℕ) (at from written : ℕ) (last : Bool) (r : Advanced)
-    where
-  abbrev Done : Type 0
-  Done = Advances (opening at (collected h values) (openedTo last)) (r .progress) t′ out out′ (r .next) from (r .written)
+  where
+    abbrev Done : Type 0
+    Done = Advances (opening at (collected h values) (openedTo last)) (r .progress) t′ out out′ (r .next) from (r .written)
 
-  opened-holds : (t : Lent) (w : World) (last : Bool) (at written : ℕ) → HoldsBook b t w → Holds (advancedTo Phase.Messages last b 1 at written .progress) t (openedTo last w)
-  opened-holds t w true at written h = refl
-  opened-holds t w false at written h = (refl, refl, h, refl)
+    opened-holds : (t : Lent) (w : World) (last : Bool) (at written : ℕ) → HoldsBook b t w → Holds (advancedTo Phase.Messages last b 1 at written .progress) t (openedTo last w)
+    opened-holds t w true at written h = refl
+    opened-holds t w false at written h = (refl, refl, h, refl)
 
-  -- the book's line
-  pub book-opens : question ≡ 0 → (days first : ℕ) → days ≡ daysOfMonth (b .year) (b .month) → first ≡ firstDay (b .year) (b .month)
-      → Written longestLine out out′ from written (bookLine (b .year) (b .month) days first) → r ≡ advancedTo Phase.Messages last b 1 at written → Done
-  unfolding opening lineOf monthDays monthFirst worldIn
-  book-opens z days first d f w e =
-      let a : settleAnswer (openingIn b t) ≡ 0 = sym (p .answer) ∙ z in
-      let s = settles (openingIn b t) a in
-      let same : worldIn b t′ ≡ opened (lent (openingIn b t)) = ap (λ x. worldIn x t′) (sym (fresh-again b t h values v)) ∙ p .world a in
-      rw (← opening-in b t h values v at (openedTo last), e, a) (record {
-        holds = opened-holds t′ (opened (lent (openingIn b t))) last at written (record { world = sym same; whole = s .whole; points = open-points b t a });
-        text = loosened (omega arith) (rw (d, f) at w);
-        place = refl;
-      })
+    -- the book's line
+    pub book-opens : question ≡ 0 → (days first : ℕ) → days ≡ daysOfMonth (b .year) (b .month) → first ≡ firstDay (b .year) (b .month)
+        → Written longestLine out out′ from written (bookLine (b .year) (b .month) days first) → r ≡ advancedTo Phase.Messages last b 1 at written → Done
+    unfolding opening lineOf monthDays monthFirst worldIn
+    book-opens z days first d f w e =
+        let a : settleAnswer (openingIn b t) ≡ 0 = sym (p .answer) ∙ z in
+        let s = settles (openingIn b t) a in
+        let same : worldIn b t′ ≡ opened (lent (openingIn b t)) = ap (λ x. worldIn x t′) (sym (fresh-again b t h values v)) ∙ p .world a in
+        rw (← opening-in b t h values v at (openedTo last), e, a) (record {
+          holds = opened-holds t′ (opened (lent (openingIn b t))) last at written (record { world = sym same; whole = s .whole; points = open-points b t a });
+          text = loosened (omega arith) (rw (d, f) at w);
+          place = refl;
+        })
 
-  -- the refusal
-  pub book-stays : question ≢ 0 → Written longestLine out out′ from written (refusedLine 0 question) → r ≡ advancedTo Phase.Messages true b 1 at written → Done
-  unfolding opening broken endedBy
-  book-stays z w e =
-      let a : settleAnswer (openingIn b t) ≢ 0 = λ y. z (p .answer ∙ y) in
-      rw (← opening-in b t h values v at (openedTo last), e, ne-eqb (settleAnswer (openingIn b t)) 0 a) (record {
-        holds = refl;
-        text = loosened (omega arith) (rw (p .answer) at w);
-        place = refl;
-      })
+    -- the refusal
+    pub book-stays : question ≢ 0 → Written longestLine out out′ from written (refusedLine 0 question) → r ≡ advancedTo Phase.Messages true b 1 at written → Done
+    unfolding opening broken endedBy
+    book-stays z w e =
+        let a : settleAnswer (openingIn b t) ≢ 0 = λ y. z (p .answer ∙ y) in
+        rw (← opening-in b t h values v at (openedTo last), e, ne-eqb (settleAnswer (openingIn b t)) 0 a) (record {
+          holds = refl;
+          text = loosened (omega arith) (rw (p .answer) at w);
+          place = refl;
+        })

@@ -1,28 +1,28 @@
 -- The parts of the tables that a book uses: they lie within the tables, and a part that was lent on comes back as the front of its table. Assumes nothing.
-use Prim.Native.Nat.{ℕ, _+_, _*_, _≤_, _<_}
+use Prim.Native.Nat.{ℕ, _+_, _*_, _≤_}
 use native.Mathlib.Nat.{mul-le-mul}
 use native.Mathlib.Omega.{arith}
-use mathlib.Core.Path.{_≡_, refl, sym, ap, subst, _∙_}
-use mathlib.Core.Bool.{Bool, true, false, _&&_}
-use mathlib.Core.List.{List, [], _∷_, _++_}
+use mathlib.Core.Path.{_≡_, refl, ap, _∙_}
+use mathlib.Core.Bool.{true}
+use mathlib.Core.List.{List, _++_}
 use mathlib.Core.Option.{Option, none, some}
 use lib.IntN.{ℤ}
 use lib.ListN.{length, take, drop}
 use lib.Seq.{length-take-le, take-at}
 use lib.Dec.{leb}
 use borrow.Author.Tests.{leb-true}
-use Rattle.calendar.specs.Gregorian.{daysOfMonth, InRange}
+use Rattle.calendar.specs.Gregorian.{daysOfMonth}
 use Rattle.calendar.specs.MonthLaws.{days-range}
 use Rattle.rules.specs.declared.Book.{Book}
 use Rattle.rules.specs.declared.Body.{Body}
 use Rattle.rules.specs.declared.Fields.{Fields}
 use Rattle.rules.specs.Basics.{within}
 use Rattle.rules.specs.World.{Opening, World, worldOf}
-use Rattle.rules.specs.WellFormed.{withinLimits, rowsFit, question2}
+use Rattle.rules.specs.WellFormed.{withinLimits, question2}
 use Rattle.rules.specs.Effects.{posted, accepted, stepBy, step, recordsOf}
 use Rattle.rules.proofs.Tests.{both}
 use Rattle.rules.proofs.Ranges.{within-low, within-high}
-use Rattle.rules.proofs.Parts.{Limits, limits, Whole}
+use Rattle.rules.proofs.Parts.{limits, Whole}
 use Rattle.settlement.specs.declared.Reply.{Reply}
 use Rattle.settlement.specs.Replies.{Answered, Due}
 use Rattle.rounds.specs.Moved.{IsWorld}
@@ -128,23 +128,23 @@ module _ (b : Book) (t : Lent) (e : Ends) (q : e ≡ endsOf b) where
       (lb : length bs ≡ length (take (e .blocks) (t .blocks)))
       (ll : length ns ≡ length (take (e .lines) (t .lines)))
       (lt : length ts ≡ length (take (e .lines) (t .sent)))
-      where
-    -- the tables with the parts back in their places
-    abbrev pub after : Lent
-    after = lentOf (t .elementData) (t .prices) links holders states (rs ++ drop (e .readings) (t .readings)) (bs ++ drop (e .blocks) (t .blocks)) (ns ++ drop (e .lines) (t .lines)) (ts ++ drop (e .lines) (t .sent))
+    where
+      -- the tables with the parts back in their places
+      abbrev pub after : Lent
+      after = lentOf (t .elementData) (t .prices) links holders states (rs ++ drop (e .readings) (t .readings)) (bs ++ drop (e .blocks) (t .blocks)) (ns ++ drop (e .lines) (t .lines)) (ts ++ drop (e .lines) (t .sent))
 
-    pub parts-back : endsOf a ≡ endsOf b → worldIn a after ≡ partsOf a links holders states rs bs ns ts
-    unfolding worldIn
-    parts-back z =
-        let f = parts-fit g in
-        rw (z, ← q, front-back (e .readings) (t .readings) rs lr (omega (arith, s .readings, f .readings)), front-back (e .blocks) (t .blocks) bs lb (omega (arith, s .blocks, f .blocks)), front-back (e .lines) (t .lines) ns ll (omega (arith, s .lines, f .lines)), front-back (e .lines) (t .sent) ts lt (omega (arith, s .sent, f .lines)))
+      pub parts-back : endsOf a ≡ endsOf b → worldIn a after ≡ partsOf a links holders states rs bs ns ts
+      unfolding worldIn
+      parts-back z =
+          let f = parts-fit g in
+          rw (z, ← q, front-back (e .readings) (t .readings) rs lr (omega (arith, s .readings, f .readings)), front-back (e .blocks) (t .blocks) bs lb (omega (arith, s .blocks, f .blocks)), front-back (e .lines) (t .lines) ns ll (omega (arith, s .lines, f .lines)), front-back (e .lines) (t .sent) ts lt (omega (arith, s .sent, f .lines)))
 
-    -- a message that was taken by the parts was taken by the tables
-    pub message-done : (f : Fields) (r : Reply) (room : ℕ)
-        → Answered (partsOf b (t .links) (t .holders) (t .states) (take (e .readings) (t .readings)) (take (e .blocks) (t .blocks)) (take (e .lines) (t .lines)) (take (e .lines) (t .sent))) (partsOf a links holders states rs bs ns ts) f r room
-        × Whole (partsOf a links holders states rs bs ns ts)
-        → Answered (worldIn b t) (worldIn a after) f r room × Whole (worldIn a after)
-    message-done f r room p =
-        let o = ap (λ (x : World). x .opening) (p .0 .world) ∙ step-opening _ f room in
-        let z = parts-back (ends-same a b (ap (λ (x : Opening). x .year) o) (ap (λ (x : Opening). x .month) o) (ap (λ (x : Opening). x .points) o) (ap (λ (x : Opening). x .suppliers) o) (ap (λ (x : Opening). x .elements) o)) in
-        rw (parts-are, z) p
+      -- a message that was taken by the parts was taken by the tables
+      pub message-done : (f : Fields) (r : Reply) (room : ℕ)
+          → Answered (partsOf b (t .links) (t .holders) (t .states) (take (e .readings) (t .readings)) (take (e .blocks) (t .blocks)) (take (e .lines) (t .lines)) (take (e .lines) (t .sent))) (partsOf a links holders states rs bs ns ts) f r room
+          × Whole (partsOf a links holders states rs bs ns ts)
+          → Answered (worldIn b t) (worldIn a after) f r room × Whole (worldIn a after)
+      message-done f r room p =
+          let o = ap (λ (x : World). x .opening) (p .0 .world) ∙ step-opening _ f room in
+          let z = parts-back (ends-same a b (ap (λ (x : Opening). x .year) o) (ap (λ (x : Opening). x .month) o) (ap (λ (x : Opening). x .points) o) (ap (λ (x : Opening). x .suppliers) o) (ap (λ (x : Opening). x .elements) o)) in
+          rw (parts-are, z) p

@@ -1,23 +1,22 @@
 -- One field at a time: the text that it prints and what is printed behind it are what is printed from it on. Of a whole input, and of the bytes in
 -- hand, whatever follows them. By cases on the stage and the field. Assumes nothing.
-use Prim.Native.Nat.{ℕ, zero, suc, _+_, _≤_, _<_}
+use Prim.Native.Nat.{ℕ, suc, _+_, _≤_, _<_}
 use mathlib.Core.Path.{_≡_, refl, sym, ap, _∙_}
-use mathlib.Core.Logic.{_⊎_, inl, inr, ⊎-elim}
-use mathlib.Core.Bool.{Bool, true, false, _&&_, cond}
-use mathlib.Core.List.{List, [], _∷_, _++_, append-nil, append-assoc}
-use lib.ListN.{length, take, drop, length-drop, length-append}
+use mathlib.Core.Logic.{_⊎_, ⊎-elim}
+use mathlib.Core.Bool.{Bool, true, false}
+use mathlib.Core.List.{List, [], _++_, append-nil}
+use lib.ListN.{length, drop, length-drop, length-append}
 use lib.Seq.{take-append-le, drop-append-le, drop-drop}
 use lib.Dec.{eqb}
 use native.Mathlib.Omega.{arith}
 use Rattle.rules.specs.World.{Opening, World}
-use Rattle.rules.specs.Effects.{step}
 use Rattle.rules.proofs.Tests.{cases}
 use Rattle.wire.specs.declared.Phase.{Phase}
 use Rattle.wire.specs.declared.Found.{Found}
 use Rattle.wire.specs.declared.Found.the-variants.{Month, Element, Message, End, More, Broken}
-use Rattle.wire.specs.Field.{tagOf, fieldNamed, monthIn, rightField, wholeField, fieldOf, fieldIn, fieldFrom, Inside}
-use Rattle.wire.specs.Program.{endedBy, recordPlaces, answered, onMessage, messagesFrom, Heading, collected, settleAnswer, openThen, onElement, elementsFrom, onMonth, settled}
-use Rattle.wire.proofs.FieldLaws.{whole-rest, front-decides, inside-in, inside-of, Undecided}
+use Rattle.wire.specs.Field.{fieldOf, fieldIn, fieldFrom, Inside}
+use Rattle.wire.specs.Program.{endedBy, answered, onMessage, messagesFrom, Heading, collected, settleAnswer, openThen, onElement, elementsFrom, onMonth, settled}
+use Rattle.wire.proofs.FieldLaws.{whole-rest, front-decides, inside-in, Undecided}
 use Rattle.wire.proofs.ProgramLaws.{messages-enough, elements-enough}
 use Rattle.runner.specs.Stages.{Stage, start, elements, messages, over, phaseOf, printed, Move, broken, lineOf, openedTo, opening, moveOn, isMore}
 
@@ -166,7 +165,7 @@ opening-from : (at : ℕ) (o : Opening) (more : World → Stage) → opening at 
 unfolding opening broken
 opening-from at o more = let z : at ≡ at + 0 = omega arith in cases (eqb (settleAnswer o) 0) (λ t. rw (t, ← z)) (λ t. rw (t, ← z))
 
-move-from : (at : ℕ) (stage : Stage) (found : Found) (s : List ℕ) → moveOn at stage (fieldFrom at found) s ≡ movedBy at (moveOn 0 stage found (drop at s))
+pub move-from : (at : ℕ) (stage : Stage) (found : Found) (s : List ℕ) → moveOn at stage (fieldFrom at found) s ≡ movedBy at (moveOn 0 stage found (drop at s))
 unfolding moveOn fieldFrom broken
 move-from at start (Month year month points suppliers next) s = refl
 move-from at start (Element from size next) s = let z : at ≡ at + 0 = omega arith in rw (← z)

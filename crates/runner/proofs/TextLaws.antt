@@ -1,13 +1,12 @@
 -- Texts written one behind the other: the lines of records, and what a message prints. Assumes nothing.
-use Prim.Native.Nat.{ℕ, zero, suc, _+_, _*_, _≤_, _<_}
+use Prim.Native.Nat.{ℕ, suc, _+_, _*_, _≤_, _<_}
 use native.Mathlib.Omega.{arith}
 use native.Mathlib.Numerals.{add-one}
 use mathlib.Core.Path.{_≡_, refl, sym, ap, _∙_}
 use mathlib.Core.Logic.{_≢_}
 use mathlib.Core.Bool.{false, cond}
 use mathlib.Core.List.{List, [], _∷_, _++_, append-assoc, append-nil}
-use lib.ListN.{length, take}
-use lib.Seq.{take-at, length-take-le}
+use lib.ListN.{length}
 use lib.Dec.{eqb}
 use borrow.Author.Tests.{ne-eqb, eqb-false}
 use Rattle.rules.proofs.Tests.{cases}
@@ -68,28 +67,28 @@ message-text w f number question e = rw e (cases (eqb (answer w f recordPlaces) 
 
 module _ (w : World) (f : Fields) (number question : ℕ) (q : question ≡ answer w f recordPlaces) (a b : List ℕ) (from printed : ℕ)
     (v : Written longestText a b from printed (recordLines (recordsOf w f recordPlaces)))
-    where
-  -- where there is a refusal, nothing was printed before it
-  pub refusal-first : 0 < question → printed ≡ from
-  unfolding recordLines
-  refusal-first h =
-      let n : answer w f recordPlaces ≢ 0 = λ z. omega (arith, q, z) in
-      let l : length (recordLines (recordsOf w f recordPlaces)) ≡ 0 = rw (refused-silent w f recordPlaces n) in
-      omega (arith, v .end, l)
+  where
+    -- where there is a refusal, nothing was printed before it
+    pub refusal-first : 0 < question → printed ≡ from
+    unfolding recordLines
+    refusal-first h =
+        let n : answer w f recordPlaces ≢ 0 = λ z. omega (arith, q, z) in
+        let l : length (recordLines (recordsOf w f recordPlaces)) ≡ 0 = rw (refused-silent w f recordPlaces n) in
+        omega (arith, v .end, l)
 
-  short-text : (c : List ℕ) (written : ℕ) → Written longestLine b c printed written (cond (eqb question 0) [] (refusedLine number question)) → length (answered w f number) ≤ longestText
-  unfolding answered
-  short-text c written u = cases (eqb (answer w f recordPlaces) 0)
-      (λ t. rw t (v .short))
-      (λ t.
-      let k : length (cond (eqb (answer w f recordPlaces) 0) [] (refusedLine number (answer w f recordPlaces))) ≤ longestLine = rw q at (u .short) in
-      let l : length (refusedLine number (answer w f recordPlaces)) ≤ longestLine = rw t at k in
-      rw t (omega arith))
+    short-text : (c : List ℕ) (written : ℕ) → Written longestLine b c printed written (cond (eqb question 0) [] (refusedLine number question)) → length (answered w f number) ≤ longestText
+    unfolding answered
+    short-text c written u = cases (eqb (answer w f recordPlaces) 0)
+        (λ t. rw t (v .short))
+        (λ t.
+        let k : length (cond (eqb (answer w f recordPlaces) 0) [] (refusedLine number (answer w f recordPlaces))) ≤ longestLine = rw q at (u .short) in
+        let l : length (refusedLine number (answer w f recordPlaces)) ≤ longestLine = rw t at k in
+        rw t (omega arith))
 
-  pub text-taken : (c : List ℕ) (written : ℕ) → Written longestLine b c printed written (cond (eqb question 0) [] (refusedLine number question)) → from + longestText ≤ length a → Written longestText a c from written (answered w f number)
-  text-taken c written u h =
-      let j = rw (message-text w f number question q) at (joined v u h) in
-      record { is = j .is; end = j .end; short = short-text c written u }
+    pub text-taken : (c : List ℕ) (written : ℕ) → Written longestLine b c printed written (cond (eqb question 0) [] (refusedLine number question)) → from + longestText ≤ length a → Written longestText a c from written (answered w f number)
+    text-taken c written u h =
+        let j = rw (message-text w f number question q) at (joined v u h) in
+        record { is = j .is; end = j .end; short = short-text c written u }
 
 -- the book, the tables and the text after a message
 pub message-taken : (b : Book) (t t′ : Lent) (f : Fields) (number next : ℕ) (reply : Reply) (r : Advanced) (question : ℕ) (out mid after : List ℕ) (from printed written : ℕ)
@@ -100,10 +99,13 @@ pub message-taken : (b : Book) (t t′ : Lent) (f : Fields) (number next : ℕ) 
     → TakesMessage (worldIn b t) f number next r t′ out after from × (r .more ≡ false)
 unfolding worldIn
 message-taken b t t′ f number next reply r question out mid after from printed written p v q u h e =
-    rw (e, add-one number) (record {
-      world = p .0 .world;
-      whole = p .1;
-      points = ap (λ (x : World). x .opening .points) (p .0 .world) ∙ ap (λ (x : Opening). x .points) (step-opening (worldIn b t) f recordPlaces);
-      text = text-taken (worldIn b t) f number question (q ∙ p .0 .number) out mid from printed v after written u h;
-      made = refl;
-    }, refl)
+    rw (e, add-one number) (
+      record {
+        world = p .0 .world;
+        whole = p .1;
+        points = ap (λ (x : World). x .opening .points) (p .0 .world) ∙ ap (λ (x : Opening). x .points) (step-opening (worldIn b t) f recordPlaces);
+        text = text-taken (worldIn b t) f number question (q ∙ p .0 .number) out mid from printed v after written u h;
+        made = refl;
+      },
+      refl,
+    )

@@ -1,13 +1,12 @@
 -- An element's value put into the tables behind those before it: the tables' fronts are the values' bytes and prices. Assumes nothing.
-use Prim.Native.Nat.{ℕ, suc, _+_, _*_, _≤_, _<_, min}
+use Prim.Native.Nat.{ℕ, _+_, _*_, _≤_, _<_, min}
 use native.Mathlib.Omega.{arith}
-use mathlib.Core.Path.{_≡_, refl, sym, ap, ap₂, _∙_}
+use mathlib.Core.Path.{_≡_, sym, ap, _∙_}
 use mathlib.Core.List.{List, [], _∷_, _++_, append-assoc, append-nil}
 use lib.IntN.{ℤ}
 use lib.ListN.{length, take, drop, length-append}
 use lib.Seq.{length-take-le, take-at}
 use Rattle.rules.specs.declared.Book.{Book}
-use Rattle.rules.specs.World.{pricePlaces}
 use Rattle.rules.proofs.Ranges.{length-listTo}
 use Rattle.queries.specs.Promises.{freshBook}
 use Rattle.wire.specs.Bytes.{placed}
@@ -59,9 +58,9 @@ module _ (b : Book) (ds : List ℕ) (ps : List ℤ) (h : Heading) (values : List
       record {
         book = book-more;
         described = λ q. rw (d, z, length-more values value, described-more values value, ← v .described l)
-          (placed-front ds (n * 3) (take 3 value) ((n + 1) * 3) (omega arith) (omega (arith, t)));
+            (placed-front ds (n * 3) (take 3 value) ((n + 1) * 3) (omega arith) (omega (arith, t)));
         priced = λ q. rw (p, z, length-more values value, prices-more values value, ← v .priced l)
-          (placed-front ps (n * 24) (pricesOf value) ((n + 1) * 24) (omega arith) (omega (arith, prices-long value)));
+            (placed-front ps (n * 24) (pricesOf value) ((n + 1) * 24) (omega arith) (omega (arith, prices-long value)));
       }
 
   -- there is none

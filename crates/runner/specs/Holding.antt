@@ -1,11 +1,11 @@
 -- What the numbers of a run and the tables lent to it stand for, and what is promised of one field.
 use Prim.Native.Nat.{ℕ, suc, _+_, _-_, _*_, _≤_, _<_, min}
 use mathlib.Core.Path.{_≡_}
-use mathlib.Core.Bool.{Bool, true, false, not, cond}
-use mathlib.Core.List.{List, []}
+use mathlib.Core.Bool.{Bool, true, false, not, _&&_}
+use mathlib.Core.List.{List, [], _++_}
 use lib.IntN.{ℤ}
 use lib.ListN.{length, getD, take}
-use lib.Dec.{eqb}
+use lib.Dec.{leb, ltb}
 use Rattle.rules.specs.declared.Book.{Book}
 use Rattle.rules.specs.declared.Fields.{Fields}
 use Rattle.rules.specs.declared.Record.{Record}
@@ -17,11 +17,12 @@ use Rattle.rules.proofs.Parts.{Whole}
 use Rattle.queries.specs.Promises.{freshBook}
 use Rattle.wire.specs.declared.Phase.{Phase}
 use Rattle.wire.specs.Lines.{Written}
-use Rattle.wire.specs.Program.{endedBy, recordPlaces, answered, Heading, describedAll, pricesAll, lent, settleAnswer}
+use Rattle.wire.specs.Program.{recordPlaces, answered, Heading, describedAll, pricesAll, lent, settleAnswer}
 use Rattle.runner.specs.declared.Progress.{Progress}
 use Rattle.runner.specs.declared.Advanced.{Advanced}
-use Rattle.runner.specs.Stages.{Stage, start, elements, messages, over, Move, lineOf}
-use Rattle.runner.specs.Parts.{Lent, Sized, worldIn, anew}
+use Rattle.runner.specs.declared.Ran.{Ran}
+use Rattle.runner.specs.Stages.{Stage, start, elements, messages, over, printed, Move}
+use Rattle.runner.specs.Parts.{Lent, worldIn, anew}
 
 -- the month, the values of the elements so far, and their count, which stops at 65: more than 64 are question 2 whatever they are
 pub record HoldsValues (b : Book) (elementData : List ℕ) (prices : List ℤ) (h : Heading) (values : List (List ℕ)) : Type 0 where
@@ -69,10 +70,6 @@ waitsAt p at from = record { progress = p; next = at; written = from; more = tru
 
 -- ---- an opening
 
--- the book's line, or the refusal
-unfoldable pub openingText : Opening → List ℕ
-openingText o = cond (eqb (settleAnswer o) 0) (lineOf o) (endedBy (settleAnswer o))
-
 -- questions 2 to 4 of an opening, and the tables as a book that opens finds them
 pub record OpensTables (b : Book) (o : Opening) (after : Lent) (question : ℕ) : Type 0 where
   pub answer : question ≡ settleAnswer o
@@ -106,3 +103,24 @@ pub record TakesMessage (w : World) (f : Fields) (number next : ℕ) (r : Advanc
   pub points : r .progress .book .points ≡ w .opening .points
   pub text : Written longestText out after from (r .written) (answered w f number)
   pub made : r ≡ advancedTo Phase.Messages false (r .progress .book) (suc number) next (r .written)
+
+-- ---- a run
+
+-- another field can be taken
+unfoldable pub goesOn : Progress → (waits : Bool) (left : ℕ) → Bool
+goesOn p waits left = not waits && (not (p .over) && (ltb (p .number) lastNumber && leb longestText left))
+
+-- from a stage and the bytes behind it the run has come to another: what is printed from the first on is the text, and what is printed from the
+-- second on, whatever follows the bytes in hand
+pub record Reached (ended : Bool) (from : Stage) (front text : List ℕ) (p : Progress) (t : Lent) (left : List ℕ) : Type 0 where
+  pub stage : Stage
+  pub holds : Holds p t stage
+  pub same : (rest : List ℕ) → (ended ≡ true → rest ≡ []) → printed from (front ++ rest) ≡ text ++ printed stage (left ++ rest)
+
+-- where it has stopped, and why
+pub record Stopped (s : List ℕ) (ended : Bool) (out : List ℕ) (r : Ran) : Type 0 where
+  pub place : r .next ≤ length s
+  pub text : r .written ≤ length out
+  -- more bytes are needed: the input does not end here, and fewer are left than the longest field has
+  pub waits : r .waits ≡ true → (ended ≡ false) × (length s - r .next < 198)
+  pub stops : goesOn (r .progress) (r .waits) (length out - r .written) ≡ false

@@ -19,7 +19,7 @@ ghost use Rattle.wire.specs.Lines.{refusedLine, longestLine, Written};
 ghost use Rattle.wire.specs.Program.{recordPlaces, recordLines, Heading, collected};
 ghost use Rattle.runner.specs.Stages.{Stage, start, elements, messages, broken, openedTo, opening, moveOn, foundAt, isMore, isEnd, opensBook};
 ghost use Rattle.runner.specs.Parts.{Lent, lentOf, Sized, Fitted, isFitted, endsOf, worldIn, openingIn};
-ghost use Rattle.runner.specs.Holding.{HoldsValues, Holds, Stands, longestText, lastNumber, Advances, advancedTo, waitsAt, OpensTables, counted, recordsListed, TakesMessage};
+ghost use Rattle.runner.specs.Holding.{HoldsValues, Holds, Stands, longestText, lastNumber, Advances, advancedTo, waitsAt, goesOn, Reached, Stopped, OpensTables, counted, recordsListed, TakesMessage};
 use calendar::days_in_month;
 use calendar::first_day;
 use intake::all_three;
@@ -67,11 +67,7 @@ struct Ends {
 fn is_fitted(book: Book) -> bool
     ensures { λ r. ⌜ r ≡ isFitted book ⌝ }
 {
-    let counts = all_three(
-        book.points <= 16,
-        book.suppliers <= 16,
-        book.elements <= 64,
-    );
+    let counts = all_three(book.points <= 16, book.suppliers <= 16, book.elements <= 64);
     all_three(
         is_within(2000, 2099, book.year),
         is_within(1, 12, book.month),
@@ -446,10 +442,18 @@ fn on_start(book: Book, found: Found, at: usize, out: &mut [u8], from: usize) ->
         points,
         suppliers,
         next,
-    } = found else {
+    } = found
+    else {
         return refuse(book, at, out, from);
     };
-    moved(Phase::Elements, false, month_book(year, month, points, suppliers), 1, next, from)
+    moved(
+        Phase::Elements,
+        false,
+        month_book(year, month, points, suppliers),
+        1,
+        next,
+        from,
+    )
 }
 
 // One element field more, up to 65.
@@ -457,7 +461,11 @@ fn count_on(book: Book) -> Book
     ensures { λ r. ⌜ r ≡ counted book ⌝ }
 {
     let mut next = book;
-    next.elements = if book.elements < 64 { book.elements + 1 } else { 65 };
+    next.elements = if book.elements < 64 {
+        book.elements + 1
+    } else {
+        65
+    };
     next
 }
 
@@ -524,7 +532,8 @@ fn gather(
         start,
         length,
         next,
-    } = found else {
+    } = found
+    else {
         return refuse(book, at, out, from);
     };
     let after = take_element(book, s, start, length, element_data, prices);
@@ -718,5 +727,92 @@ pub fn advance(
             out,
             from,
         ),
+    }
+}
+
+// ---- the run
+
+// How far a call of `run` has come.
+pub struct Ran {
+    pub progress: Progress,
+    // the place of the input that the run goes on from
+    pub next: usize,
+    // how many bytes of the output are written
+    pub written: usize,
+    // more bytes are needed
+    pub waits: bool,
+}
+
+// Another field can be taken: the run is not over, no more bytes are needed, and there are a message number and room for the longest text.
+fn goes_on(progress: Progress, waits: bool, left: usize) -> bool
+    ensures { λ r. ⌜ r ≡ goesOn progress waits left ⌝ }
+{
+    if waits {
+        return false;
+    }
+    if progress.over {
+        return false;
+    }
+    if progress.number < 18446744073709551615 {
+        138240 <= left
+    } else {
+        false
+    }
+}
+
+// Takes one field after the other, from a place of the bytes in hand on; the text stands at the front of the output. It stops where the run is
+// over, where more bytes are needed, where the output has no room for the longest text of a field, or after the last message number.
+pub fn run(
+    progress: Progress,
+    s: &[u8],
+    at: usize,
+    ended: bool,
+    element_data: &mut [u8],
+    prices: &mut [i64],
+    links: &mut [u64],
+    holders: &mut [u64],
+    states: &mut [u64],
+    readings: &mut [u32],
+    blocks: &mut [u8],
+    lines: &mut [i64],
+    sent: &mut [i64],
+    out: &mut [u8],
+) -> Ran
+    requires { ⌜ Sized (lentOf (now element_data) (now prices) (now links) (now holders) (now states) (now readings) (now blocks) (now lines) (now sent)) × (at ≤ length (now s)) × Stands progress (lentOf (now element_data) (now prices) (now links) (now holders) (now states) (now readings) (now blocks) (now lines) (now sent)) ⌝ }
+    ensures { λ r. ⌜ ((stage : Stage) → Holds progress (lentOf (now (element_data .entry)) (now (prices .entry)) (now (links .entry)) (now (holders .entry)) (now (states .entry)) (now (readings .entry)) (now (blocks .entry)) (now (lines .entry)) (now (sent .entry))) stage → Reached ended stage (drop at (now (s .entry))) (take (r .written) (now (out .exit))) (r .progress) (lentOf (now (element_data .exit)) (now (prices .exit)) (now (links .exit)) (now (holders .exit)) (now (states .exit)) (now (readings .exit)) (now (blocks .exit)) (now (lines .exit)) (now (sent .exit))) (drop (r .next) (now (s .entry)))) × Stopped (now (s .entry)) ended (now (out .exit)) r ⌝ }
+{
+    let mut p = progress;
+    let mut place = at;
+    let mut written = 0;
+    let mut waits = false;
+    while goes_on(p, waits, out.len() - written) {
+        let a = advance(
+            p,
+            s,
+            place,
+            ended,
+            element_data,
+            prices,
+            links,
+            holders,
+            states,
+            readings,
+            blocks,
+            lines,
+            sent,
+            out,
+            written,
+        );
+        let after = a.progress;
+        p = after;
+        place = a.next;
+        written = a.written;
+        waits = a.more;
+    }
+    Ran {
+        progress: p,
+        next: place,
+        written,
+        waits,
     }
 }

@@ -5,8 +5,6 @@ use native.Mathlib.Omega.{arith}
 use borrow.Author.Needs.{needs}
 use Rattle.runner.proofs.count_on.Statement.{statement}
 use Rattle.runner.proofs.count_on.Tie as tie
-use Rattle.runner.proofs.count_on.Reads as reads
-use Rattle.runner.proofs.count_on.Lts as lts
 
 add-next : tie.Need-add-next
 add-next c = search needs

@@ -1,17 +1,12 @@
 -- `ends_of` meets its contract: 16 points of 31 days, and 16 suppliers of 64 elements, are few enough for every product.
-use mathlib.Core.Path.{_∙_}
 use Prim.Native.Nat.{_*_, _≤_}
 use native.Mathlib.Nat.{mul-le-mul}
-use Rattle.calendar.specs.Gregorian.{daysOfMonth}
 use Rattle.runner.specs.Parts.{endsOf}
 use Rattle.runner.proofs.PartLaws.{month-fits}
 use native.Mathlib.Omega.{arith}
 use borrow.Author.Needs.{needs}
 use Rattle.runner.proofs.ends_of.Statement.{statement}
 use Rattle.runner.proofs.ends_of.Tie as tie
-use Rattle.runner.proofs.ends_of.Reads as reads
-use Rattle.runner.proofs.ends_of.Lts as lts
-use Rattle.calendar.proofs.days_in_month.Reads as days-in-month-reads
 
 days-in-month-requires : tie.Need-days-in-month-requires
 days-in-month-requires c κs = search needs

@@ -3,15 +3,9 @@ use mathlib.Core.Path.{sym, ap, _∙_}
 use Rattle.runner.specs.declared.Advanced.{Advanced}
 use Rattle.runner.proofs.FoundLaws.{messages-end, messages-else}
 use Rattle.runner.proofs.ArmLaws.{arm-over}
-use native.Mathlib.Omega.{arith}
 use borrow.Author.Needs.{needs}
 use Rattle.runner.proofs.finish.Statement.{statement}
 use Rattle.runner.proofs.finish.Tie as tie
-use Rattle.runner.proofs.finish.Reads as reads
-use Rattle.runner.proofs.finish.Lts as lts
-use Rattle.runner.proofs.is_end.Reads as is-end-reads
-use Rattle.runner.proofs.moved.Reads as moved-reads
-use Rattle.runner.proofs.refuse.Reads as refuse-reads
 
 is-end-requires : tie.Need-is-end-requires
 is-end-requires c κs = search needs

@@ -1,18 +1,11 @@
 -- `gather` meets its contract: an element, whose value lies within the bytes, or a field that is not in its place.
 use mathlib.Core.Path.{ap}
-use Rattle.wire.specs.Field.{Inside}
 use Rattle.runner.specs.declared.Advanced.{Advanced}
 use Rattle.runner.proofs.FoundLaws.{elements-else, element-inside}
 use Rattle.runner.proofs.ArmLaws.{arm-element}
-use native.Mathlib.Omega.{arith}
 use borrow.Author.Needs.{needs}
 use Rattle.runner.proofs.gather.Statement.{statement}
 use Rattle.runner.proofs.gather.Tie as tie
-use Rattle.runner.proofs.gather.Reads as reads
-use Rattle.runner.proofs.gather.Lts as lts
-use Rattle.runner.proofs.moved.Reads as moved-reads
-use Rattle.runner.proofs.refuse.Reads as refuse-reads
-use Rattle.runner.proofs.take_element.Reads as take-element-reads
 
 enum-known-found : tie.Need-enum-known-found
 enum-known-found c = search needs

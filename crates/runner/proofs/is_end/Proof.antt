@@ -1,13 +1,10 @@
 -- `is_end` meets its contract: by the case of what was found.
-use mathlib.Core.Path.{sym, ap}
+use mathlib.Core.Path.{sym}
 use Rattle.runner.specs.Stages.{isEnd}
 use Rattle.runner.proofs.FoundLaws.{not-end}
-use native.Mathlib.Omega.{arith}
 use borrow.Author.Needs.{needs}
 use Rattle.runner.proofs.is_end.Statement.{statement}
 use Rattle.runner.proofs.is_end.Tie as tie
-use Rattle.runner.proofs.is_end.Reads as reads
-use Rattle.runner.proofs.is_end.Lts as lts
 
 enum-told : tie.Need-enum-told
 enum-told c = search needs

@@ -1,14 +1,9 @@
 -- `is_fitted` meets its contract: the tests of the definition, in its order.
 use mathlib.Core.Path.{_∙_}
 use Rattle.runner.specs.Parts.{isFitted}
-use native.Mathlib.Omega.{arith}
 use borrow.Author.Needs.{needs}
 use Rattle.runner.proofs.is_fitted.Statement.{statement}
 use Rattle.runner.proofs.is_fitted.Tie as tie
-use Rattle.runner.proofs.is_fitted.Reads as reads
-use Rattle.runner.proofs.is_fitted.Lts as lts
-use Rattle.intake.proofs.all_three.Reads as all-three-reads
-use Rattle.intake.proofs.is_within.Reads as is-within-reads
 
 all-three-requires : tie.Need-all-three-requires
 all-three-requires c κs = search needs

@@ -1,13 +1,10 @@
 -- `is_more` meets its contract: by the case of what was found.
-use mathlib.Core.Path.{sym, ap}
+use mathlib.Core.Path.{sym}
 use Rattle.runner.specs.Stages.{isMore}
 use Rattle.runner.proofs.FoundLaws.{not-more}
-use native.Mathlib.Omega.{arith}
 use borrow.Author.Needs.{needs}
 use Rattle.runner.proofs.is_more.Statement.{statement}
 use Rattle.runner.proofs.is_more.Tie as tie
-use Rattle.runner.proofs.is_more.Reads as reads
-use Rattle.runner.proofs.is_more.Lts as lts
 
 enum-told : tie.Need-enum-told
 enum-told c = search needs

@@ -1,16 +1,9 @@
 -- `on_elements` meets its contract: the book opens at a message or the end, and otherwise an element is gathered.
 use mathlib.Core.Path.{sym, _∙_}
 use Rattle.runner.proofs.FoundLaws.{elements-open}
-use native.Mathlib.Omega.{arith}
 use borrow.Author.Needs.{needs}
 use Rattle.runner.proofs.on_elements.Statement.{statement}
 use Rattle.runner.proofs.on_elements.Tie as tie
-use Rattle.runner.proofs.on_elements.Reads as reads
-use Rattle.runner.proofs.on_elements.Lts as lts
-use Rattle.runner.proofs.gather.Reads as gather-reads
-use Rattle.runner.proofs.is_end.Reads as is-end-reads
-use Rattle.runner.proofs.open_book.Reads as open-book-reads
-use Rattle.runner.proofs.opens_book.Reads as opens-book-reads
 
 opens-book-requires : tie.Need-opens-book-requires
 opens-book-requires c κs = search needs

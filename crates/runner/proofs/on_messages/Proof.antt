@@ -1,14 +1,9 @@
 -- `on_messages` meets its contract: a message of an open book, the end, or a field that is not in its place.
 use Rattle.runner.proofs.FoundLaws.{not-message}
 use Rattle.runner.proofs.ArmLaws.{arm-message}
-use native.Mathlib.Omega.{arith}
 use borrow.Author.Needs.{needs}
 use Rattle.runner.proofs.on_messages.Statement.{statement}
 use Rattle.runner.proofs.on_messages.Tie as tie
-use Rattle.runner.proofs.on_messages.Reads as reads
-use Rattle.runner.proofs.on_messages.Lts as lts
-use Rattle.runner.proofs.finish.Reads as finish-reads
-use Rattle.runner.proofs.take_message.Reads as take-message-reads
 
 enum-known-found : tie.Need-enum-known-found
 enum-known-found c = search needs

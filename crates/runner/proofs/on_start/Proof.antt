@@ -3,15 +3,9 @@ use mathlib.Core.Path.{ap}
 use Rattle.runner.specs.declared.Advanced.{Advanced}
 use Rattle.runner.proofs.FoundLaws.{start-else}
 use Rattle.runner.proofs.ArmLaws.{arm-month}
-use native.Mathlib.Omega.{arith}
 use borrow.Author.Needs.{needs}
 use Rattle.runner.proofs.on_start.Statement.{statement}
 use Rattle.runner.proofs.on_start.Tie as tie
-use Rattle.runner.proofs.on_start.Reads as reads
-use Rattle.runner.proofs.on_start.Lts as lts
-use Rattle.runner.proofs.month_book.Reads as month-book-reads
-use Rattle.runner.proofs.moved.Reads as moved-reads
-use Rattle.runner.proofs.refuse.Reads as refuse-reads
 
 enum-known-found : tie.Need-enum-known-found
 enum-known-found c = search needs

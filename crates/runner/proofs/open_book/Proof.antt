@@ -3,18 +3,9 @@ use mathlib.Core.Path.{sym, ap, _∙_}
 use Rattle.runner.specs.declared.Advanced.{Advanced}
 use Rattle.runner.specs.Parts.{lentOf}
 use Rattle.runner.proofs.OpenLaws.{open-month, book-opens, book-stays}
-use native.Mathlib.Omega.{arith}
 use borrow.Author.Needs.{needs}
 use Rattle.runner.proofs.open_book.Statement.{statement}
 use Rattle.runner.proofs.open_book.Tie as tie
-use Rattle.runner.proofs.open_book.Reads as reads
-use Rattle.runner.proofs.open_book.Lts as lts
-use Rattle.calendar.proofs.days_in_month.Reads as days-in-month-reads
-use Rattle.calendar.proofs.first_day.Reads as first-day-reads
-use Rattle.runner.proofs.moved.Reads as moved-reads
-use Rattle.runner.proofs.open_tables.Reads as open-tables-reads
-use Rattle.wire.proofs.put_book.Reads as put-book-reads
-use Rattle.wire.proofs.put_refused.Reads as put-refused-reads
 
 open-tables-requires : tie.Need-open-tables-requires
 open-tables-requires c κs = search needs

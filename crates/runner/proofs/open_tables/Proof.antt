@@ -9,12 +9,6 @@ use native.Mathlib.Omega.{arith}
 use borrow.Author.Needs.{needs}
 use Rattle.runner.proofs.open_tables.Statement.{statement}
 use Rattle.runner.proofs.open_tables.Tie as tie
-use Rattle.runner.proofs.open_tables.Reads as reads
-use Rattle.runner.proofs.open_tables.Lts as lts
-use Rattle.queries.proofs.open.Reads as open-reads
-use Rattle.runner.proofs.ends_of.Reads as ends-of-reads
-use Rattle.runner.proofs.is_fitted.Reads as is-fitted-reads
-use Rattle.runner.proofs.opened_number.Reads as opened-number-reads
 
 is-fitted-requires : tie.Need-is-fitted-requires
 is-fitted-requires c κs = search needs

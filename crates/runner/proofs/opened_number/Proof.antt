@@ -1,13 +1,9 @@
 -- `opened_number` meets its contract: by the case of what was opened.
 use mathlib.Core.Path.{sym, ap, _∙_}
 use Rattle.rules.specs.Answers.{openedNumber}
-use native.Mathlib.Omega.{arith}
 use borrow.Author.Needs.{needs}
 use Rattle.runner.proofs.opened_number.Statement.{statement}
 use Rattle.runner.proofs.opened_number.Tie as tie
-use Rattle.runner.proofs.opened_number.Reads as reads
-use Rattle.runner.proofs.opened_number.Lts as lts
-use Rattle.messages.proofs.number.Reads as number-reads
 
 enum-known-opened : tie.Need-enum-known-opened
 enum-known-opened c = search needs

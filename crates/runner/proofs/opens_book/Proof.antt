@@ -2,13 +2,9 @@
 use mathlib.Core.Path.{sym, _∙_}
 use Rattle.runner.specs.Stages.{opensBook}
 use Rattle.runner.proofs.FoundLaws.{not-message}
-use native.Mathlib.Omega.{arith}
 use borrow.Author.Needs.{needs}
 use Rattle.runner.proofs.opens_book.Statement.{statement}
 use Rattle.runner.proofs.opens_book.Tie as tie
-use Rattle.runner.proofs.opens_book.Reads as reads
-use Rattle.runner.proofs.opens_book.Lts as lts
-use Rattle.runner.proofs.is_end.Reads as is-end-reads
 
 enum-known-found : tie.Need-enum-known-found
 enum-known-found c = search needs

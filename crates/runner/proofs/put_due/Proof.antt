@@ -1,18 +1,12 @@
 -- `put_due` meets its contract: the records that are due to the parts are those of the tables' fronts.
-use mathlib.Core.Path.{sym, _∙_}
+use mathlib.Core.Path.{sym}
 use lib.Seq.{length-take-le}
-use Rattle.rounds.proofs.Sending.{world-of}
 use Rattle.runner.specs.Parts.{lentOf}
 use Rattle.runner.proofs.PartLaws.{whole-fitted, parts-fit, parts-are, due-text}
 use native.Mathlib.Omega.{arith}
 use borrow.Author.Needs.{needs}
 use Rattle.runner.proofs.put_due.Statement.{statement}
 use Rattle.runner.proofs.put_due.Tie as tie
-use Rattle.runner.proofs.put_due.Reads as reads
-use Rattle.runner.proofs.put_due.Lts as lts
-use Rattle.runner.proofs.ends_of.Reads as ends-of-reads
-use Rattle.runner.proofs.put_records.Reads as put-records-reads
-use Rattle.settlement.proofs.due_within.Reads as due-within-reads
 
 ends-of-requires : tie.Need-ends-of-requires
 ends-of-requires c κs = let a = c .before .before .before .before .before .before .before .args in whole-fitted (a .book) (lentOf (a .element-data .now) (a .prices .now) (a .links .now) (a .holders .now) (a .states .now) (a .readings .now) (a .blocks .now) (a .lines .now) (a .sent .now)) (c .before .before .before .before .before .before .before .pre .1 .0) (c .before .before .before .before .before .before .before .pre .1 .1)

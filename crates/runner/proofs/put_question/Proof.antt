@@ -5,9 +5,6 @@ use native.Mathlib.Omega.{arith}
 use borrow.Author.Needs.{needs}
 use Rattle.runner.proofs.put_question.Statement.{statement}
 use Rattle.runner.proofs.put_question.Tie as tie
-use Rattle.runner.proofs.put_question.Reads as reads
-use Rattle.runner.proofs.put_question.Lts as lts
-use Rattle.wire.proofs.put_refused.Reads as put-refused-reads
 
 put-refused-requires : tie.Need-put-refused-requires
 put-refused-requires c κs = c .before .before .before .pre (omega (arith, c .before .if1 .left))

@@ -13,10 +13,6 @@ use native.Mathlib.Omega.{arith}
 use borrow.Author.Needs.{needs}
 use Rattle.runner.proofs.put_records.Statement.{statement}
 use Rattle.runner.proofs.put_records.Tie as tie
-use Rattle.runner.proofs.put_records.Reads as reads
-use Rattle.runner.proofs.put_records.Lts as lts
-use Rattle.rounds.proofs.record_of.Reads as record-of-reads
-use Rattle.wire.proofs.put_record.Reads as put-record-reads
 
 abbrev Inv-loop : tie.InvT-loop
 Inv-loop out₀ from book lines sent moved count written₀ i₀ out written i =
@@ -57,9 +53,12 @@ loop-again c =
     let e = c .before .before .put-record .ensures in
     let k = c .before .before .put-record .kept .0 in
     let room = c .before .before .before .before .before .before .before .before .before .before .pre .1 .1 in
-    let i = l .i in
-    (omega (arith, c .before .before .before .before .before .before .loop-test .taken), omega (arith, k, l .inv .1), omega (arith, e .end, e .short, l .inv .2),
-    λ w h. line-more (λ j. recordOf w (supplierOf (w .opening) (getD (a .moved .now) j 0)) (elementOf (w .opening) (getD (a .moved .now) j 0))) i (c .before .before .before .record-of .result) _ _ _ (a .from) _ _ (l .inv .3 w h) e (c .before .before .before .record-of .ensures .1 w h) (omega (arith, room, c .before .before .before .before .before .before .loop-test .taken)))
+    let i = l .i in (
+      omega (arith, c .before .before .before .before .before .before .loop-test .taken),
+      omega (arith, k, l .inv .1),
+      omega (arith, e .end, e .short, l .inv .2),
+      λ w h. line-more (λ j. recordOf w (supplierOf (w .opening) (getD (a .moved .now) j 0)) (elementOf (w .opening) (getD (a .moved .now) j 0))) i (c .before .before .before .record-of .result) _ _ _ (a .from) _ _ (l .inv .3 w h) e (c .before .before .before .record-of .ensures .1 w h) (omega (arith, room, c .before .before .before .before .before .before .loop-test .taken)),
+    )
 
 same-length : tie.Need-same-length Inv-loop μ-loop
 same-length c = search needs

@@ -1,16 +1,10 @@
 -- `refuse` meets its contract: the refusal is printed, and the run is over.
-use mathlib.Core.Path.{refl, ap}
-use Rattle.wire.specs.Program.{endedBy}
+use mathlib.Core.Path.{ap}
 use Rattle.runner.specs.declared.Advanced.{Advanced}
 use Rattle.runner.proofs.ArmLaws.{arm-broken}
-use native.Mathlib.Omega.{arith}
 use borrow.Author.Needs.{needs}
 use Rattle.runner.proofs.refuse.Statement.{statement}
 use Rattle.runner.proofs.refuse.Tie as tie
-use Rattle.runner.proofs.refuse.Reads as reads
-use Rattle.runner.proofs.refuse.Lts as lts
-use Rattle.runner.proofs.moved.Reads as moved-reads
-use Rattle.wire.proofs.put_refused.Reads as put-refused-reads
 
 put-refused-requires : tie.Need-put-refused-requires
 put-refused-requires c κs = search needs

@@ -2,16 +2,11 @@
 use mathlib.Core.Path.{_≡_}
 use lib.ListN.{length, take, drop, length-drop}
 use lib.Seq.{length-take-le}
-use Prim.Native.Nat.{_≤_}
 use Rattle.runner.proofs.ValueLaws.{value-read, value-dropped}
 use native.Mathlib.Omega.{arith}
 use borrow.Author.Needs.{needs}
 use Rattle.runner.proofs.take_element.Statement.{statement}
 use Rattle.runner.proofs.take_element.Tie as tie
-use Rattle.runner.proofs.take_element.Reads as reads
-use Rattle.runner.proofs.take_element.Lts as lts
-use Rattle.runner.proofs.count_on.Reads as count-on-reads
-use Rattle.wire.proofs.read_element.Reads as read-element-reads
 
 read-element-requires : tie.Need-read-element-requires
 read-element-requires c κs = search needs

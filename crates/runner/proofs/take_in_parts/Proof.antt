@@ -1,6 +1,6 @@
 -- `take_in_parts` meets its contract: the book is well formed, so its parts lie within the tables; a message leaves the counts, so what comes back
 -- are the parts of the book afterwards.
-use mathlib.Core.Path.{sym, _∙_}
+use mathlib.Core.Path.{sym}
 use lib.Seq.{length-take-le}
 use Rattle.runner.specs.Parts.{lentOf}
 use Rattle.runner.proofs.PartLaws.{whole-fitted, parts-fit, parts-are, message-done}
@@ -8,10 +8,6 @@ use native.Mathlib.Omega.{arith}
 use borrow.Author.Needs.{needs}
 use Rattle.runner.proofs.take_in_parts.Statement.{statement}
 use Rattle.runner.proofs.take_in_parts.Tie as tie
-use Rattle.runner.proofs.take_in_parts.Reads as reads
-use Rattle.runner.proofs.take_in_parts.Lts as lts
-use Rattle.runner.proofs.ends_of.Reads as ends-of-reads
-use Rattle.settlement.proofs.take_within.Reads as take-within-reads
 
 ends-of-requires : tie.Need-ends-of-requires
 ends-of-requires c κs = let a = c .before .before .before .before .before .before .args in whole-fitted (a .book) (lentOf (a .element-data .now) (a .prices .now) (a .links .now) (a .holders .now) (a .states .now) (a .readings .now) (a .blocks .now) (a .lines .now) (a .sent .now)) (c .before .before .before .before .before .before .pre .1 .0) (c .before .before .before .before .before .before .pre .1 .1)

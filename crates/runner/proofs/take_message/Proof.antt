@@ -1,20 +1,11 @@
 -- `take_message` meets its contract: the records that were due are the message's, and where it is refused there were none.
-use mathlib.Core.Path.{sym, _∙_}
-use lib.ListN.{length}
-use Prim.Native.Nat.{_+_, _≤_, _<_}
+use mathlib.Core.Path.{_∙_}
 use Rattle.runner.specs.Parts.{lentOf, worldIn}
 use Rattle.runner.proofs.TextLaws.{refusal-first, message-taken}
 use native.Mathlib.Omega.{arith}
 use borrow.Author.Needs.{needs}
 use Rattle.runner.proofs.take_message.Statement.{statement}
 use Rattle.runner.proofs.take_message.Tie as tie
-use Rattle.runner.proofs.take_message.Reads as reads
-use Rattle.runner.proofs.take_message.Lts as lts
-use Rattle.messages.proofs.number.Reads as number-reads
-use Rattle.runner.proofs.moved.Reads as moved-reads
-use Rattle.runner.proofs.put_due.Reads as put-due-reads
-use Rattle.runner.proofs.put_question.Reads as put-question-reads
-use Rattle.runner.proofs.take_in_parts.Reads as take-in-parts-reads
 
 put-due-requires : tie.Need-put-due-requires
 put-due-requires c κs = search needs
