@@ -1,0 +1,99 @@
+// `settle` reads a month's file from standard input and prints the book's line, its records and its refusals. The input comes in pieces through one
+// buffer; what is printed for it is what `runner::run` promises. A write that fails ends the run.
+ghost use mathlib.Core.Path.{_≡_};
+ghost use Prim.Native.Nat.{_-_, _≤_};
+ghost use lib.ListN.{length, take, drop};
+use libc::STDIN_FILENO;
+use libc::STDOUT_FILENO;
+use runner::begin;
+use runner::run;
+
+// The bytes from `at` up to `have` come to the front of the buffer; how many there are.
+fn keep_rest(buffer: &mut [u8], at: usize, have: usize) -> usize
+    requires { ⌜ (at ≤ have) × (have ≤ length (now buffer)) ⌝ }
+    ensures { λ r. ⌜ (r ≡ have - at) × (take r (now (buffer .exit)) ≡ take (have - at) (drop at (now (buffer .entry)))) ⌝ }
+{
+    let rest = have - at;
+    let mut i = 0;
+    while i < rest {
+        buffer[i] = buffer[at + i];
+        i += 1;
+    }
+    rest
+}
+
+// Reads once behind the first `have` bytes; how many there are then. The same number where the input has ended or cannot be read.
+fn read_more(buffer: &mut [u8], have: usize) -> usize
+    requires { ⌜ have ≤ length (now buffer) ⌝ }
+    ensures { λ r. ⌜ (have ≤ r) × (r ≤ length (now (buffer .exit))) × (length (now (buffer .exit)) ≡ length (now (buffer .entry))) × (take have (now (buffer .exit)) ≡ take have (now (buffer .entry))) ⌝ }
+{
+    let free = &mut buffer[have..];
+    let got = libc::read(STDIN_FILENO, free);
+    have + io::count(got, free)
+}
+
+// 16 points of 31 days of 24 hours.
+fn no_readings() -> [u32; 11904]
+    ensures { λ r. ⌜ 11904 ≡ length r ⌝ }
+{
+    [0; 11904]
+}
+
+// Room for the longest text of a field, and as much again, so that not every field is written by itself.
+fn no_text() -> [u8; 262144]
+    ensures { λ r. ⌜ 262144 ≡ length r ⌝ }
+{
+    [0; 262144]
+}
+
+// A proved loop has to end, and nothing says that the input does: the loop counts its turns down, from a number that no run uses up.
+fn main() {
+    let mut element_data = [0u8; 192];
+    let mut prices = [0i64; 1536];
+    let mut links = [0u64; 1024];
+    let mut holders = [0u64; 1024];
+    let mut states = [0u64; 1024];
+    let mut readings = no_readings();
+    let mut blocks = [0u8; 16];
+    let mut lines = [0i64; 3072];
+    let mut sent = [0i64; 3072];
+    let mut out = no_text();
+    let mut buffer = io::large_buffer();
+    let mut progress = begin();
+    let mut have = 0;
+    let mut ended = false;
+    let mut turns = u64::MAX;
+    while turns > 0 {
+        let ran = run(
+            progress,
+            &buffer[..have],
+            0,
+            ended,
+            &mut element_data,
+            &mut prices,
+            &mut links,
+            &mut holders,
+            &mut states,
+            &mut readings,
+            &mut blocks,
+            &mut lines,
+            &mut sent,
+            &mut out,
+        );
+        let written = ran.written;
+        if io::write_all(STDOUT_FILENO, &out[..written]) {
+            let after = ran.progress;
+            progress = after;
+            if progress.over {
+                return;
+            }
+            have = keep_rest(&mut buffer, ran.next, have);
+            let more = read_more(&mut buffer, have);
+            ended = more == have;
+            have = more;
+            turns -= 1;
+        } else {
+            return;
+        }
+    }
+}
