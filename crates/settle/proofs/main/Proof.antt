@@ -43,24 +43,23 @@ begin-requires : tie.Need-begin-requires Inv-loop μ-loop
 begin-requires c κs = search needs
 
 loop-holds : tie.Need-loop-holds Inv-loop μ-loop
-loop-holds c =
-    (
-      record {
-        elementData = refl;
-        prices = refl;
-        links = refl;
-        holders = refl;
-        states = refl;
-        readings = sym (c .before .before .before .no-readings .ensures);
-        blocks = refl;
-        lines = refl;
-        sent = refl;
-      },
-      record { stage = start; holds = c .begin .ensures .0 (lentOf [] [] [] [] [] [] [] [] []) },
-      sym (c .before .large-buffer .ensures),
-      omega arith,
-      sym (c .before .before .no-text .ensures),
-    )
+loop-holds c = (
+  record {
+    elementData = refl;
+    prices = refl;
+    links = refl;
+    holders = refl;
+    states = refl;
+    readings = sym (c .before .before .before .no-readings .ensures);
+    blocks = refl;
+    lines = refl;
+    sent = refl;
+  },
+  record { stage = start; holds = c .begin .ensures .0 (lentOf [] [] [] [] [] [] [] [] []) },
+  sym (c .before .large-buffer .ensures),
+  omega arith,
+  sym (c .before .before .no-text .ensures),
+)
 
 array-share-prefix-buffer : tie.Need-array-share-prefix-buffer Inv-loop μ-loop
 array-share-prefix-buffer c =
@@ -162,8 +161,7 @@ loop-again c =
     let l = c .before .before .before .before .before .before .before .before .before .before .before .before .before .before .before .before .before .before .before .before .before .before .before .before .before .before .before .before .before .before .before .before .before .before .loop .inv in
     let r = c .before .before .before .before .before .before .before .before .before .before .before .before .before .before .before .before .before .before .before .before .before .run .ensures .0 (l .1 .stage) (l .1 .holds) in
     let m = c .before .read-more .ensures in
-    let b = m .2 ∙ c .before .before .before .before .keep-rest .kept .0 ∙ l .2 in
-    (
+    let b = m .2 ∙ c .before .before .before .before .keep-rest .kept .0 ∙ l .2 in (
       record {
         elementData = c .before .before .before .before .before .before .before .before .before .before .before .before .before .before .before .before .before .before .before .before .before .run .kept .1 .1 .1 .1 .0 ∙ l .0 .elementData;
         prices = c .before .before .before .before .before .before .before .before .before .before .before .before .before .before .before .before .before .before .before .before .before .run .kept .1 .1 .1 .1 .1 .0 ∙ l .0 .prices;
