@@ -3,3 +3,4 @@ pub mod Lending
 pub mod LocalArray
 pub mod ListReplies
 pub mod Texts
+pub mod Plain

@@ -10,7 +10,7 @@ use native.Mathlib.Omega.{arith}
 use lib.Dec.{eqb}
 use lib.ListN.{length, getD, take, drop, length-append}
 use lib.Seq.{take-at, take-suc}
-use borrow.Author.Tests.{eqb-false, eq-eqb, ne-eqb}
+use borrow.Author.Tests.{eqb-false}
 use Rattle.rules.specs.declared.Book.{Book}
 use Rattle.rules.specs.declared.Fields.{Fields}
 use Rattle.rules.specs.declared.Record.{Record}
@@ -28,18 +28,9 @@ use Rattle.listing.specs.declared.Printed.{Printed}
 use Rattle.listing.specs.Replies.{noRecord, Replied, Texted}
 use Rattle.listing.proofs.ListReplies.{refused-list}
 
-nothing-written : (most : ℕ) (out : List ℕ) (from : ℕ) → Written most out out from from []
+-- nothing
+pub nothing-written : (most : ℕ) (out : List ℕ) (from : ℕ) → Written most out out from from []
 nothing-written most out from = record { is = placed-none out from; end = omega arith; short = omega arith }
-
--- ---- the refusal, or nothing
-
-module _ (before : List ℕ) (at message q n : ℕ) (is : q ≡ n) where
-  pub nothing-put : q ≡ 0 → Written longestLine before before at at (cond (eqb n 0) [] (refusedLine message n))
-  nothing-put h = rw (← is, eq-eqb q 0 h) (nothing-written longestLine before at)
-
-  pub refusal-put : q ≢ 0 → (out : List ℕ) (next : ℕ) → Written longestLine before out at next (refusedLine message q)
-      → Written longestLine before out at next (cond (eqb n 0) [] (refusedLine message n))
-  refusal-put h out next w = rw (← is, ne-eqb q 0 h) w
 
 -- ---- the lines of the first records of a list
 

@@ -165,28 +165,30 @@ fn put_entries(list: &[Record], count: usize, out: &mut [u8], from: usize) -> us
     written
 }
 
+// The refusal of a message, or nothing.
+fn put_question(out: &mut [u8], at: usize, message: u64, question: u64) -> usize
+    requires { ⌜ (question ≢ 0 → at + longestLine ≤ length (now out)) ⌝ }
+    ensures { λ r. ⌜ Written longestLine (now (out .entry)) (now (out .exit)) at r (cond (eqb question 0) [] (refusedLine message question)) ⌝ }
+{
+    if question == 0 {
+        at
+    } else {
+        put_refused(out, at, message, question)
+    }
+}
+
 // The refusal of a message, or nothing, behind its records.
 fn put_answer(reply: Reply, message: u64, out: &mut [u8], at: usize) -> Printed
     requires { ⌜ (numberOf (reply .answer) ≢ 0 → at + longestLine ≤ length (now out)) ⌝ }
     ensures { λ r. ⌜ (r .reply ≡ reply) × Written longestLine (now (out .entry)) (now (out .exit)) at (r .written) (cond (eqb (numberOf (reply .answer)) 0) [] (refusedLine message (numberOf (reply .answer)))) ⌝ }
 {
     let answer = reply.answer;
-    let question = number(answer);
-    if question == 0 {
-        Printed {
-            reply: reply,
-            written: at,
-        }
-    } else {
-        Printed {
-            reply: reply,
-            written: put_refused(out, at, message, question),
-        }
-    }
+    let written = put_question(out, at, message, number(answer));
+    Printed { reply, written }
 }
 
 // A message of a book that is well formed, and stays so, with a list of 1,024 records: what it prints, from a place on. Cost: as for `message_within`.
-pub fn message_text(
+fn message_text(
     book: Book,
     element_data: &[u8],
     prices: &[i64],
@@ -229,4 +231,62 @@ pub fn message_text(
     );
     let written = put_entries(&list, reply.records, out, from);
     put_answer(reply, message, out, written)
+}
+
+// A message of a book that is well formed, and stays so: what it prints, from a place on. Only a round has records: no other message lays out the
+// list, of 48 KB, and the table of moved lines, of 8 KB. Cost: as for `message_within`.
+pub fn message_printed(
+    book: Book,
+    element_data: &[u8],
+    prices: &[i64],
+    links: &mut [u64],
+    holders: &mut [u64],
+    states: &mut [u64],
+    readings: &mut [u32],
+    blocks: &mut [u8],
+    lines: &mut [i64],
+    sent: &mut [i64],
+    fields: Fields,
+    message: u64,
+    out: &mut [u8],
+    from: usize,
+) -> Printed
+    requires { ⌜ Whole (worldOf book (now element_data) (now prices) (now links) (now holders) (now states) (now readings) (now blocks) (now lines) (now sent)) × (from + recordPlaces * longestLine ≤ length (now out)) ⌝ }
+    ensures { λ r. ⌜ Texted (worldOf book (now (element_data .entry)) (now (prices .entry)) (now (links .entry)) (now (holders .entry)) (now (states .entry)) (now (readings .entry)) (now (blocks .entry)) (now (lines .entry)) (now (sent .entry))) (worldOf (r .reply .book) (now (element_data .entry)) (now (prices .entry)) (now (links .exit)) (now (holders .exit)) (now (states .exit)) (now (readings .exit)) (now (blocks .exit)) (now (lines .exit)) (now (sent .exit))) fields message r (now (out .entry)) (now (out .exit)) from × Whole (worldOf (r .reply .book) (now (element_data .entry)) (now (prices .entry)) (now (links .exit)) (now (holders .exit)) (now (states .exit)) (now (readings .exit)) (now (blocks .exit)) (now (lines .exit)) (now (sent .exit))) ⌝ }
+{
+    if fields.kind == 8 {
+        return message_text(
+            book,
+            element_data,
+            prices,
+            links,
+            holders,
+            states,
+            readings,
+            blocks,
+            lines,
+            sent,
+            fields,
+            message,
+            out,
+            from,
+        );
+    }
+    let reply = take_within(
+        book,
+        element_data,
+        prices,
+        links,
+        holders,
+        states,
+        readings,
+        blocks,
+        lines,
+        sent,
+        1024,
+        fields,
+    );
+    let answer = reply.answer;
+    let written = put_question(out, from, message, number(answer));
+    Printed { reply, written }
 }

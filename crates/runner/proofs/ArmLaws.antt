@@ -16,13 +16,13 @@ use Rattle.wire.specs.declared.Found.the-variants.{Month, Element, Message, End
 use Rattle.wire.specs.Lines.{refusedLine, longestLine, Written}
 use Rattle.wire.specs.Program.{endedBy, Heading, describedAll, pricesAll}
 use Rattle.wire.proofs.PlacedLaws.{loosened}
+use Rattle.listing.proofs.Texts.{nothing-written}
 use Rattle.runner.specs.declared.Progress.{Progress}
 use Rattle.runner.specs.declared.Advanced.{Advanced}
 use Rattle.runner.specs.Stages.{Stage, start, elements, messages, over, quiet, broken, moveOn, isMore}
 use Rattle.runner.specs.Parts.{Lent, worldIn}
 use Rattle.runner.specs.Holding.{HoldsValues, Holds, longestText, Advances, advancedTo, waitsAt, TakesMessage}
 use Rattle.runner.proofs.StageLaws.{never}
-use Rattle.runner.proofs.TextLaws.{nothing-written}
 
 -- the run ends with question 1
 pub arm-broken : (at : ℕ) (b : Book) (r : Advanced) (t : Lent) (out after : List ℕ) (from written number : ℕ) → Written longestLine out after from written (refusedLine 0 1)

@@ -1,5 +1,5 @@
 -- The parts of the tables that a book uses: they lie within the tables, and a part that was lent on comes back as the front of its table. Assumes nothing.
-use Prim.Native.Nat.{ℕ, _+_, _*_, _≤_}
+use Prim.Native.Nat.{ℕ, _*_, _≤_}
 use native.Mathlib.Nat.{mul-le-mul}
 use native.Mathlib.Omega.{arith}
 use mathlib.Core.Path.{_≡_, refl, ap, _∙_}
@@ -19,20 +19,15 @@ use Rattle.rules.specs.declared.Fields.{Fields}
 use Rattle.rules.specs.Basics.{within}
 use Rattle.rules.specs.World.{Opening, World, worldOf}
 use Rattle.rules.specs.WellFormed.{withinLimits, question2}
-use Rattle.rules.specs.Effects.{posted, accepted, stepBy, step, recordsOf}
+use Rattle.rules.specs.Effects.{posted, accepted, stepBy, step}
 use Rattle.rules.proofs.Tests.{both}
 use Rattle.rules.proofs.Ranges.{within-low, within-high}
 use Rattle.rules.proofs.Parts.{limits, Whole}
-use Rattle.settlement.specs.declared.Reply.{Reply}
-use Rattle.settlement.specs.Replies.{Answered, Due}
-use Rattle.rounds.specs.Moved.{IsWorld}
-use Rattle.rounds.proofs.Sending.{world-of}
-use Rattle.wire.specs.Lines.{longestLine, Written}
-use Rattle.wire.specs.Program.{recordPlaces, recordLines}
-use Rattle.wire.proofs.PlacedLaws.{loosened}
+use Rattle.wire.specs.Program.{recordPlaces}
+use Rattle.listing.specs.declared.Printed.{Printed}
+use Rattle.listing.specs.Replies.{Texted}
 use Rattle.runner.specs.declared.Ends.{Ends}
 use Rattle.runner.specs.Parts.{Lent, lentOf, Sized, Fitted, isFitted, endsOf, worldIn}
-use Rattle.runner.specs.Holding.{longestText, recordsListed}
 
 -- ---- the parts lie within the tables
 
@@ -42,6 +37,14 @@ pub record EndsFit (e : Ends) : Type 0 where
   pub readings : e .readings ≤ 11904
   pub blocks : e .blocks ≤ 16
   pub lines : e .lines ≤ 3072
+
+pub record Within (e : Ends) (t : Lent) : Type 0 where
+  pub described : e .described ≤ length (t .elementData)
+  pub priced : e .priced ≤ length (t .prices)
+  pub readings : e .readings ≤ length (t .readings)
+  pub blocks : e .blocks ≤ length (t .blocks)
+  pub lines : e .lines ≤ length (t .lines)
+  pub sent : e .lines ≤ length (t .sent)
 
 pub month-fits : (points year month : ℕ) → points ≤ 16 → points * daysOfMonth year month ≤ 16 * 31
 month-fits points year month h = mul-le-mul h (days-range year month .1)
@@ -106,6 +109,11 @@ module _ (b : Book) (t : Lent) (e : Ends) (q : e ≡ endsOf b) where
   pub parts-fit : Fitted b → EndsFit e
   parts-fit f = rw q (ends-fit b f)
 
+  pub parts-within : Sized t → Fitted b → Within e t
+  parts-within s g =
+      let f = parts-fit g in
+      record { described = omega arith; priced = omega arith; readings = omega arith; blocks = omega arith; lines = omega arith; sent = omega arith }
+
   -- a world whose tables are those parts
   abbrev pub partsOf : Book → (links holders states readings blocks : List ℕ) (lines sent : List ℤ) → World
   partsOf a links holders states readings blocks lines sent = worldOf a (take (e .described) (t .elementData)) (take (e .priced) (t .prices)) links holders states readings blocks lines sent
@@ -114,14 +122,6 @@ module _ (b : Book) (t : Lent) (e : Ends) (q : e ≡ endsOf b) where
   pub parts-are : worldIn b t ≡ partsOf b (t .links) (t .holders) (t .states) (take (e .readings) (t .readings)) (take (e .blocks) (t .blocks)) (take (e .lines) (t .lines)) (take (e .lines) (t .sent))
   unfolding worldIn
   parts-are = rw q
-
-  -- the records that are due to the parts
-  pub due-text : (f : Fields) (moved : List ℕ) (n : ℕ) (out after : List ℕ) (from written : ℕ)
-      → Due (partsOf b (t .links) (t .holders) (t .states) (take (e .readings) (t .readings)) (take (e .blocks) (t .blocks)) (take (e .lines) (t .lines)) (take (e .lines) (t .sent))) b (take (e .lines) (t .lines)) (take (e .lines) (t .sent)) f recordPlaces moved n
-      → ((w : World) → IsWorld w b (take (e .lines) (t .lines)) (take (e .lines) (t .sent)) → Written (n * longestLine) out after from written (recordLines (recordsListed w moved n)))
-      → Written longestText out after from written (recordLines (recordsOf (worldIn b t) f recordPlaces))
-  due-text f moved n out after from written d w =
-      rw (parts-are, d .records) (loosened (let z : n * 135 ≤ 138240 = omega (arith, d .listed) in z) (w (partsOf b (t .links) (t .holders) (t .states) (take (e .readings) (t .readings)) (take (e .blocks) (t .blocks)) (take (e .lines) (t .lines)) (take (e .lines) (t .sent))) (world-of _ _ _ _ _ _ _ _ _ _)))
 
   module _ (s : Sized t) (g : Fitted b) (a : Book) (links holders states rs bs : List ℕ) (ns ts : List ℤ)
       (lr : length rs ≡ length (take (e .readings) (t .readings)))
@@ -136,15 +136,15 @@ module _ (b : Book) (t : Lent) (e : Ends) (q : e ≡ endsOf b) where
       pub parts-back : endsOf a ≡ endsOf b → worldIn a after ≡ partsOf a links holders states rs bs ns ts
       unfolding worldIn
       parts-back z =
-          let f = parts-fit g in
-          rw (z, ← q, front-back (e .readings) (t .readings) rs lr (omega (arith, s .readings, f .readings)), front-back (e .blocks) (t .blocks) bs lb (omega (arith, s .blocks, f .blocks)), front-back (e .lines) (t .lines) ns ll (omega (arith, s .lines, f .lines)), front-back (e .lines) (t .sent) ts lt (omega (arith, s .sent, f .lines)))
+          let v = parts-within s g in
+          rw (z, ← q, front-back (e .readings) (t .readings) rs lr (v .readings), front-back (e .blocks) (t .blocks) bs lb (v .blocks), front-back (e .lines) (t .lines) ns ll (v .lines), front-back (e .lines) (t .sent) ts lt (v .sent))
 
       -- a message that was taken by the parts was taken by the tables
-      pub message-done : (f : Fields) (r : Reply) (room : ℕ)
-          → Answered (partsOf b (t .links) (t .holders) (t .states) (take (e .readings) (t .readings)) (take (e .blocks) (t .blocks)) (take (e .lines) (t .lines)) (take (e .lines) (t .sent))) (partsOf a links holders states rs bs ns ts) f r room
+      pub text-done : (f : Fields) (message : ℕ) (r : Printed) (out written : List ℕ) (from : ℕ)
+          → Texted (partsOf b (t .links) (t .holders) (t .states) (take (e .readings) (t .readings)) (take (e .blocks) (t .blocks)) (take (e .lines) (t .lines)) (take (e .lines) (t .sent))) (partsOf a links holders states rs bs ns ts) f message r out written from
           × Whole (partsOf a links holders states rs bs ns ts)
-          → Answered (worldIn b t) (worldIn a after) f r room × Whole (worldIn a after)
-      message-done f r room p =
-          let o = ap (λ (x : World). x .opening) (p .0 .world) ∙ step-opening _ f room in
+          → Texted (worldIn b t) (worldIn a after) f message r out written from × Whole (worldIn a after)
+      text-done f message r out written from p =
+          let o = ap (λ (x : World). x .opening) (p .0 .reply .world) ∙ step-opening _ f recordPlaces in
           let z = parts-back (ends-same a b (ap (λ (x : Opening). x .year) o) (ap (λ (x : Opening). x .month) o) (ap (λ (x : Opening). x .points) o) (ap (λ (x : Opening). x .suppliers) o) (ap (λ (x : Opening). x .elements) o)) in
           rw (parts-are, z) p

@@ -4,15 +4,13 @@ use mathlib.Core.Path.{_≡_}
 use mathlib.Core.Bool.{Bool, true, false, not, _&&_}
 use mathlib.Core.List.{List, [], _++_}
 use lib.IntN.{ℤ}
-use lib.ListN.{length, getD, take}
+use lib.ListN.{length, take}
 use lib.Dec.{leb, ltb}
 use Rattle.rules.specs.declared.Book.{Book}
 use Rattle.rules.specs.declared.Fields.{Fields}
-use Rattle.rules.specs.declared.Record.{Record}
-use Rattle.rules.specs.Basics.{listTo}
 use Rattle.rules.specs.World.{Opening, World}
 use Rattle.rules.specs.Opening.{opened}
-use Rattle.rules.specs.Effects.{supplierOf, elementOf, recordOf, step}
+use Rattle.rules.specs.Effects.{step}
 use Rattle.rules.proofs.Parts.{Whole}
 use Rattle.queries.specs.Promises.{freshBook}
 use Rattle.wire.specs.declared.Phase.{Phase}
@@ -91,10 +89,6 @@ counted b =
     }
 
 -- ---- a message
-
--- the records of so many lines whose numbers are listed
-abbrev pub recordsListed : World → List ℕ → ℕ → List Record
-recordsListed w moved n = listTo (λ i. recordOf w (supplierOf (w .opening) (getD moved i 0)) (elementOf (w .opening) (getD moved i 0))) n
 
 -- the book, the tables and the text after a message
 pub record TakesMessage (w : World) (f : Fields) (number next : ℕ) (r : Advanced) (t : Lent) (out after : List ℕ) (from : ℕ) : Type 0 where

@@ -1,43 +1,37 @@
 // The run of the program `settle` over input bytes, one field at a time: document 01, "File and program". The tables are lent at the
 // program's own sizes; a book uses the fronts of them.
 ghost use mathlib.Core.Path.{_≡_};
-ghost use mathlib.Core.Bool.{false, cond};
+ghost use mathlib.Core.Bool.{false};
 ghost use mathlib.Core.List.{List, [], _∷_, _++_};
-ghost use Prim.Native.Nat.{ℕ, _+_, _*_, _≤_, _<_};
+ghost use Prim.Native.Nat.{ℕ, _+_, _≤_, _<_};
 ghost use lib.IntN.{ℤ};
-ghost use lib.ListN.{length, getD, take, drop};
-ghost use lib.Dec.{eqb};
+ghost use lib.ListN.{length, take, drop};
 ghost use Rattle.rules.specs.World.{World};
-ghost use Rattle.rules.specs.Effects.{recordsOf};
 ghost use Rattle.rules.specs.Answers.{openedNumber};
 ghost use Rattle.rules.proofs.Parts.{Whole};
-ghost use Rattle.rounds.specs.Moved.{linesIn, IsWorld, Settled};
 ghost use Rattle.queries.specs.Promises.{freshBook};
-ghost use Rattle.settlement.specs.Replies.{Answered};
 ghost use Rattle.wire.specs.Field.{Inside};
-ghost use Rattle.wire.specs.Lines.{refusedLine, longestLine, Written};
-ghost use Rattle.wire.specs.Program.{recordPlaces, recordLines, Heading, collected};
+ghost use Rattle.wire.specs.Lines.{longestLine};
+ghost use Rattle.wire.specs.Program.{Heading, collected};
+ghost use Rattle.listing.specs.Replies.{Texted};
 ghost use Rattle.runner.specs.Stages.{Stage, start, elements, messages, broken, openedTo, opening, moveOn, foundAt, isMore, isEnd, opensBook};
 ghost use Rattle.runner.specs.Parts.{Lent, lentOf, Sized, Fitted, isFitted, endsOf, worldIn, openingIn};
-ghost use Rattle.runner.specs.Holding.{HoldsValues, Holds, Stands, longestText, lastNumber, Advances, advancedTo, waitsAt, goesOn, Reached, Stopped, OpensTables, counted, recordsListed, TakesMessage};
+ghost use Rattle.runner.specs.Holding.{HoldsValues, Holds, Stands, longestText, lastNumber, Advances, advancedTo, waitsAt, goesOn, Reached, Stopped, OpensTables, counted, TakesMessage};
 use calendar::days_in_month;
 use calendar::first_day;
 use intake::all_three;
 use intake::is_within;
+use listing::Printed;
+use listing::message_printed;
 use messages::number;
 use queries::open;
 use reader::find;
-use rounds::record_of;
 use rules::Book;
 use rules::Fields;
 use rules::Opened;
-use settlement::Reply;
-use settlement::due_within;
-use settlement::take_within;
 use wire::Found;
 use wire::Phase;
 use wire::put_book;
-use wire::put_record;
 use wire::put_refused;
 use wire::read_element;
 
@@ -89,46 +83,6 @@ fn ends_of(book: Book) -> Ends
         blocks: points,
         lines: book.suppliers as usize * elements * 3,
     }
-}
-
-// A message of an open book.
-fn take_in_parts(
-    book: Book,
-    element_data: &[u8],
-    prices: &[i64],
-    links: &mut [u64],
-    holders: &mut [u64],
-    states: &mut [u64],
-    readings: &mut [u32],
-    blocks: &mut [u8],
-    lines: &mut [i64],
-    sent: &mut [i64],
-    fields: Fields,
-) -> Reply
-    requires { ⌜ Sized (lentOf (now element_data) (now prices) (now links) (now holders) (now states) (now readings) (now blocks) (now lines) (now sent)) ⌝ }
-    requires { ⌜ Whole (worldIn book (lentOf (now element_data) (now prices) (now links) (now holders) (now states) (now readings) (now blocks) (now lines) (now sent))) × (book .points ≤ 16) ⌝ }
-    ensures { λ r. ⌜ Answered (worldIn book (lentOf (now (element_data .entry)) (now (prices .entry)) (now (links .entry)) (now (holders .entry)) (now (states .entry)) (now (readings .entry)) (now (blocks .entry)) (now (lines .entry)) (now (sent .entry)))) (worldIn (r .book) (lentOf (now (element_data .entry)) (now (prices .entry)) (now (links .exit)) (now (holders .exit)) (now (states .exit)) (now (readings .exit)) (now (blocks .exit)) (now (lines .exit)) (now (sent .exit)))) fields r recordPlaces × Whole (worldIn (r .book) (lentOf (now (element_data .entry)) (now (prices .entry)) (now (links .exit)) (now (holders .exit)) (now (states .exit)) (now (readings .exit)) (now (blocks .exit)) (now (lines .exit)) (now (sent .exit)))) ⌝ }
-{
-    let ends = ends_of(book);
-    let described = ends.described;
-    let priced = ends.priced;
-    let read = ends.readings;
-    let blocked = ends.blocks;
-    let lined = ends.lines;
-    take_within(
-        book,
-        &element_data[..described],
-        &prices[..priced],
-        links,
-        holders,
-        states,
-        &mut readings[..read],
-        &mut blocks[..blocked],
-        &mut lines[..lined],
-        &mut sent[..lined],
-        1024,
-        fields,
-    )
 }
 
 // ---- the opening
@@ -260,49 +214,26 @@ fn open_book(
 
 // ---- a message
 
-// The lines of the records of `count` lines whose numbers are listed. Linear in them.
-fn put_records(
-    out: &mut [u8],
-    from: usize,
-    book: Book,
-    lines: &[i64],
-    sent: &[i64],
-    moved: &[u64],
-    count: usize,
-) -> usize
-    requires { ⌜ (0 < count → Settled book (now lines) (now sent) × (book .round ≤ 3)) × ((i : ℕ) → i < count → getD (now moved) i 0 < linesIn book) ⌝ }
-    requires { ⌜ (count ≤ length (now moved)) × (from + count * longestLine ≤ length (now out)) ⌝ }
-    ensures { λ r. ⌜ ((w : World) → IsWorld w book (now (lines .entry)) (now (sent .entry)) → Written (count * longestLine) (now (out .entry)) (now (out .exit)) from r (recordLines (recordsListed w (now (moved .entry)) count))) ⌝ }
-{
-    let mut written = from;
-    let mut i = 0;
-    while i < count {
-        let k = moved[i] as usize;
-        written = put_record(out, written, record_of(book, lines, sent, k));
-        i += 1;
-    }
-    written
-}
-
-// The lines of the records that a message will send.
-fn put_due(
+// A message of an open book: the parts of the tables that it uses are lent on. What it prints stands from a place of the output on.
+fn text_in_parts(
     book: Book,
     element_data: &[u8],
     prices: &[i64],
-    links: &[u64],
-    holders: &[u64],
-    states: &[u64],
-    readings: &[u32],
-    blocks: &[u8],
-    lines: &[i64],
-    sent: &[i64],
+    links: &mut [u64],
+    holders: &mut [u64],
+    states: &mut [u64],
+    readings: &mut [u32],
+    blocks: &mut [u8],
+    lines: &mut [i64],
+    sent: &mut [i64],
     fields: Fields,
+    message: u64,
     out: &mut [u8],
     from: usize,
-) -> usize
+) -> Printed
     requires { ⌜ Sized (lentOf (now element_data) (now prices) (now links) (now holders) (now states) (now readings) (now blocks) (now lines) (now sent)) × (from + longestText ≤ length (now out)) ⌝ }
     requires { ⌜ Whole (worldIn book (lentOf (now element_data) (now prices) (now links) (now holders) (now states) (now readings) (now blocks) (now lines) (now sent))) × (book .points ≤ 16) ⌝ }
-    ensures { λ r. ⌜ Written longestText (now (out .entry)) (now (out .exit)) from r (recordLines (recordsOf (worldIn book (lentOf (now (element_data .entry)) (now (prices .entry)) (now (links .entry)) (now (holders .entry)) (now (states .entry)) (now (readings .entry)) (now (blocks .entry)) (now (lines .entry)) (now (sent .entry)))) fields recordPlaces)) ⌝ }
+    ensures { λ r. ⌜ Texted (worldIn book (lentOf (now (element_data .entry)) (now (prices .entry)) (now (links .entry)) (now (holders .entry)) (now (states .entry)) (now (readings .entry)) (now (blocks .entry)) (now (lines .entry)) (now (sent .entry)))) (worldIn (r .reply .book) (lentOf (now (element_data .entry)) (now (prices .entry)) (now (links .exit)) (now (holders .exit)) (now (states .exit)) (now (readings .exit)) (now (blocks .exit)) (now (lines .exit)) (now (sent .exit)))) fields message r (now (out .entry)) (now (out .exit)) from × Whole (worldIn (r .reply .book) (lentOf (now (element_data .entry)) (now (prices .entry)) (now (links .exit)) (now (holders .exit)) (now (states .exit)) (now (readings .exit)) (now (blocks .exit)) (now (lines .exit)) (now (sent .exit)))) ⌝ }
 {
     let ends = ends_of(book);
     let described = ends.described;
@@ -310,43 +241,22 @@ fn put_due(
     let read = ends.readings;
     let blocked = ends.blocks;
     let lined = ends.lines;
-    let mut moved = [0u64; 1024];
-    let count = due_within(
+    message_printed(
         book,
         &element_data[..described],
         &prices[..priced],
         links,
         holders,
         states,
-        &readings[..read],
-        &blocks[..blocked],
-        &lines[..lined],
-        &sent[..lined],
-        1024,
+        &mut readings[..read],
+        &mut blocks[..blocked],
+        &mut lines[..lined],
+        &mut sent[..lined],
         fields,
-        &mut moved,
-    );
-    put_records(
+        message,
         out,
         from,
-        book,
-        &lines[..lined],
-        &sent[..lined],
-        &moved,
-        count,
     )
-}
-
-// The refusal of a message, or nothing.
-fn put_question(out: &mut [u8], from: usize, message: u64, question: u64) -> usize
-    requires { ⌜ (0 < question → from + longestLine ≤ length (now out)) ⌝ }
-    ensures { λ r. ⌜ Written longestLine (now (out .entry)) (now (out .exit)) from r (cond (eqb question 0) [] (refusedLine message question)) ⌝ }
-{
-    if question == 0 {
-        from
-    } else {
-        put_refused(out, from, message, question)
-    }
 }
 
 // A message of an open book: its records or the refusal are printed, and its number is done with. The caller sees to it that there is a next number.
@@ -371,7 +281,7 @@ fn take_message(
     requires { ⌜ Whole (worldIn book (lentOf (now element_data) (now prices) (now links) (now holders) (now states) (now readings) (now blocks) (now lines) (now sent))) × (book .points ≤ 16) ⌝ }
     ensures { λ r. ⌜ TakesMessage (worldIn book (lentOf (now (element_data .entry)) (now (prices .entry)) (now (links .entry)) (now (holders .entry)) (now (states .entry)) (now (readings .entry)) (now (blocks .entry)) (now (lines .entry)) (now (sent .entry)))) fields message next r (lentOf (now (element_data .entry)) (now (prices .entry)) (now (links .exit)) (now (holders .exit)) (now (states .exit)) (now (readings .exit)) (now (blocks .exit)) (now (lines .exit)) (now (sent .exit))) (now (out .entry)) (now (out .exit)) from × (r .more ≡ false) ⌝ }
 {
-    let printed = put_due(
+    let printed = text_in_parts(
         book,
         element_data,
         prices,
@@ -383,25 +293,13 @@ fn take_message(
         lines,
         sent,
         fields,
+        message,
         out,
         from,
     );
-    let reply = take_in_parts(
-        book,
-        element_data,
-        prices,
-        links,
-        holders,
-        states,
-        readings,
-        blocks,
-        lines,
-        sent,
-        fields,
-    );
-    let answer = reply.answer;
-    let written = put_question(out, printed, message, number(answer));
+    let reply = printed.reply;
     let after = reply.book;
+    let written = printed.written;
     moved(Phase::Messages, false, after, message + 1, next, written)
 }
 

@@ -1,13 +1,12 @@
 -- `put_question` meets its contract: by the test of the question.
 use borrow.Author.Tests.{eq-eqb, ne-eqb}
-use Rattle.runner.proofs.TextLaws.{nothing-written}
-use native.Mathlib.Omega.{arith}
+use Rattle.listing.proofs.Texts.{nothing-written}
 use borrow.Author.Needs.{needs}
-use Rattle.runner.proofs.put_question.Statement.{statement}
-use Rattle.runner.proofs.put_question.Tie as tie
+use Rattle.listing.proofs.put_question.Statement.{statement}
+use Rattle.listing.proofs.put_question.Tie as tie
 
 put-refused-requires : tie.Need-put-refused-requires
-put-refused-requires c κs = c .before .before .before .pre (omega (arith, c .before .if1 .left))
+put-refused-requires c κs = c .before .before .before .pre (c .before .if1 .left)
 
 returns : tie.Need-returns
 returns c = rw (eq-eqb _ _ (c .if1 .taken)) (nothing-written _ _ _)
