@@ -4,7 +4,7 @@ use wire::Found;
 use wire::Phase;
 use wire::field_at;
 ghost use mathlib.Core.Path.{_≡_};
-ghost use Prim.Native.Nat.{_-_, _≤_};
+ghost use Prim.Native.Nat.{_≤_};
 ghost use lib.ListN.{length, drop};
 ghost use Rattle.wire.specs.Field.{fieldIn, fieldFrom};
 
@@ -27,24 +27,6 @@ pub fn field<'a>(r: Reader<'a>, phase: Phase, ended: bool) -> Found
     ensures { λ f. ⌜ f ≡ fieldFrom (r .entry .at) (fieldIn (drop (r .entry .at) (now (r .entry .bytes))) phase ended) ⌝ }
 {
     field_at(r.bytes, r.at, phase, ended)
-}
-
-// The reader moved on, to the place behind a field.
-pub fn moved<'a>(r: Reader<'a>, next: usize) -> Reader<'a>
-    ensures { λ q. ⌜ (q .bytes ≡ r .entry .bytes) × (q .at ≡ next) ⌝ }
-{
-    Reader {
-        bytes: r.bytes,
-        at: next,
-    }
-}
-
-// How many bytes are left.
-pub fn left<'a>(r: Reader<'a>) -> usize
-    requires { ⌜ r .at ≤ length (now (r .bytes)) ⌝ }
-    ensures { λ n. ⌜ n ≡ length (now (r .entry .bytes)) - r .entry .at ⌝ }
-{
-    r.bytes.len() - r.at
 }
 
 // The field at a place of bytes, through a reader: for callers whose parameters are plain.

@@ -1,4 +1,4 @@
-// The list of records that a round is lent: how many it holds, and the records of the lines that moved, written from its front.
+// The list of records that a round is lent: the records of the lines that moved, written from its front.
 ghost use mathlib.Core.Path.{_≡_};
 ghost use mathlib.Core.List.{_++_};
 ghost use Prim.Native.Nat.{ℕ, _≤_, _<_};
@@ -11,13 +11,6 @@ ghost use Rattle.records.specs.Listed.{listedRecord};
 use rounds::record_of;
 use rules::Book;
 use rules::Record;
-
-// How many records the list holds.
-pub fn room(list: &mut [Record]) -> usize
-    ensures { λ r. ⌜ (r ≡ length (now (list .entry))) × (now (list .exit) ≡ now (list .entry)) ⌝ }
-{
-    list.len()
-}
 
 // The record of the line whose number is listed at place `i`.
 fn listed_record(book: Book, lines: &[i64], sent: &[i64], moved: &[u64], i: usize) -> Record
