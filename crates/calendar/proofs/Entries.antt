@@ -9,11 +9,11 @@ use lib.Dec.{T, eqb, eqb→eq}
 use lib.ListN.{length, getD}
 use Rattle.calendar.specs.Gregorian.{firstOf, daysAfter}
 
-both-left : (a b : Bool) → T (a && b) → T a
+pub both-left : (a b : Bool) → T (a && b) → T a
 both-left true b t = tt
 both-left false b t = t
 
-both-right : (a b : Bool) → T (a && b) → T b
+pub both-right : (a b : Bool) → T (a && b) → T b
 both-right true b t = t
 both-right false b t = absurd t
 

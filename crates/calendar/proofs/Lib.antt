@@ -1,2 +1,3 @@
--- The lemma of the table.
+-- The lemma of the table, and the days by arithmetic.
 pub mod Entries
+pub mod Arithmetic

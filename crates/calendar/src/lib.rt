@@ -1,7 +1,7 @@
 // The months of the years 2000 to 2099 as days: day 0 is 1 January 2000, and day 36,524 is 31 December 2099.
 ghost use mathlib.Core.Path.{_≡_};
-ghost use Prim.Native.Nat.{_<_};
-ghost use Rattle.calendar.specs.Gregorian.{daysOfMonth, firstOf, firstDay, monthNumber, InRange};
+ghost use Prim.Native.Nat.{_≤_, _<_};
+ghost use Rattle.calendar.specs.Gregorian.{isLeap, hasThirty, daysOfMonth, firstOf, firstDay, monthNumber, InRange};
 
 // The first days of the 1,200 months, and behind them the day after the last.
 const FIRST_DAYS: [u64; 1201] = [
@@ -1224,19 +1224,62 @@ fn month_number(year: u64, month: u64) -> usize
     ((year - 2000) * 12 + (month - 1)) as usize
 }
 
-// The first day of a month, 1 to 12, of a year.
-pub fn first_day(year: u64, month: u64) -> u64
+// The first day of a month, 1 to 12, of a year, as the table has it. Linear in the table, which is laid out at each use.
+pub fn listed_first_day(year: u64, month: u64) -> u64
     requires { ⌜ InRange year month ⌝ }
     ensures { λ r. ⌜ r ≡ firstDay year month ⌝ }
 {
     first_of(month_number(year, month))
 }
 
-// The number of days of a month, 1 to 12, of a year.
+// ---- the same by arithmetic, for each message
+
+// Each fourth year from 2000 to 2099 is a leap year.
+fn is_leap(year: u64) -> bool
+    requires { ⌜ (2000 ≤ year) × (year ≤ 2099) ⌝ }
+    ensures { λ r. ⌜ r ≡ isLeap year ⌝ }
+{
+    year % 4 == 0
+}
+
+// April, June, September and November.
+fn has_thirty(month: u64) -> bool
+    ensures { λ r. ⌜ r ≡ hasThirty month ⌝ }
+{
+    if month < 8 {
+        if month == 4 { true } else { month == 6 }
+    } else {
+        if month == 9 { true } else { month == 11 }
+    }
+}
+
+// The first day of a month, 1 to 12, of a year. Constant time.
+pub fn first_day(year: u64, month: u64) -> u64
+    requires { ⌜ InRange year month ⌝ }
+    ensures { λ r. ⌜ r ≡ firstDay year month ⌝ }
+{
+    let years = year - 2000;
+    let months = month - 1;
+    let days = years * 365 + (years + 3) / 4 + (months * 367 + 5) / 12;
+    if months < 2 {
+        days
+    } else if is_leap(year) {
+        days - 1
+    } else {
+        days - 2
+    }
+}
+
+// The number of days of a month, 1 to 12, of a year. Constant time.
 pub fn days_in_month(year: u64, month: u64) -> u64
     requires { ⌜ InRange year month ⌝ }
     ensures { λ r. ⌜ r ≡ daysOfMonth year month ⌝ }
 {
-    let number = month_number(year, month);
-    first_of(number + 1) - first_of(number)
+    if month == 2 {
+        if is_leap(year) { 29 } else { 28 }
+    } else if has_thirty(month) {
+        30
+    } else {
+        31
+    }
 }

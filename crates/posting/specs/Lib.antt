@@ -15,5 +15,4 @@ pub mod WholeBook
 pub mod RowRange
 pub mod Posted
 pub mod Repaid
-pub mod Reread
 pub mod Sizes

@@ -1,37 +1,38 @@
--- `calendar::days_in_month` meets its contract: a month's days lie between its first day and that of the next month. Assumes nothing.
-use mathlib.Core.Path.{_≡_, ap, _∙_}
+-- The tests are those of the rule.
+use mathlib.Core.Path.{sym, _∙_}
+use borrow.Author.Tests.{eq-eqb, ne-eqb}
+use Rattle.calendar.specs.Gregorian.{daysOfMonth}
 use native.Mathlib.Omega.{arith}
 use borrow.Author.Needs.{needs}
-use Rattle.calendar.specs.Gregorian.{daysOfMonth, daysAfter}
-use Rattle.calendar.specs.MonthLaws.{first-more, days-after}
 use Rattle.calendar.proofs.days_in_month.Statement.{statement}
 use Rattle.calendar.proofs.days_in_month.Tie as tie
+use Rattle.calendar.proofs.days_in_month.Reads as reads
+use Rattle.calendar.proofs.days_in_month.Lts as lts
+use Rattle.calendar.proofs.has_thirty.Reads as has-thirty-reads
+use Rattle.calendar.proofs.is_leap.Reads as is-leap-reads
 
-month-number-requires : tie.Need-month-number-requires
-month-number-requires c κs = search needs
+is-leap-requires : tie.Need-is-leap-requires
+is-leap-requires c κs = search needs
 
-add-first-of : tie.Need-add-first-of
-add-first-of c = search needs
-
-first-of-requires : tie.Need-first-of-requires
-first-of-requires c κs = search needs
-
-first-of-requires-2 : tie.Need-first-of-requires-2
-first-of-requires-2 c κs = search needs
-
-sub-result : tie.Need-sub-result
-sub-result c = omega (arith, first-more (c .before .before .month-number .result))
-
--- the days of the month with the number that was computed
-days-are : (c : tie.After-month-number) → daysAfter (c .month-number .result) ≡ daysOfMonth (c .before .args .year) (c .before .args .month)
-days-are c =
-    ap daysAfter (c .month-number .ensures)
-    ∙ days-after (c .before .args .year) (c .before .args .month) (omega arith) (omega arith) (omega arith)
+has-thirty-requires : tie.Need-has-thirty-requires
+has-thirty-requires c κs = search needs
 
 returns : tie.Need-returns
-returns c = omega (arith, first-more (c .before .before .month-number .result), days-are (c .before .before))
+unfolding daysOfMonth
+returns c = rw (eq-eqb (c .before .before .before .args .month) 2 (c .before .before .if1 .taken), sym (c .before .is-leap .ensures) ∙ c .if2 .taken)
+
+returns-2 : tie.Need-returns-2
+unfolding daysOfMonth
+returns-2 c = rw (eq-eqb (c .before .before .before .args .month) 2 (c .before .before .if1 .taken), sym (c .before .is-leap .ensures) ∙ c .if2 .left)
+
+returns-3 : tie.Need-returns-3
+unfolding daysOfMonth
+returns-3 c = rw (ne-eqb (c .before .before .before .args .month) 2 (c .before .before .if1 .left), sym (c .before .has-thirty .ensures) ∙ c .if3 .taken)
+
+returns-4 : tie.Need-returns-4
+unfolding daysOfMonth
+returns-4 c = rw (ne-eqb (c .before .before .before .args .month) 2 (c .before .before .if1 .left), sym (c .before .has-thirty .ensures) ∙ c .if3 .left)
 
 pub days-in-month-spec : {M : Type 1} → statement M
 days-in-month-spec =
-    tie.close
-    (tie.spec month-number-requires add-first-of first-of-requires first-of-requires-2 sub-result returns)
+    tie.close (tie.spec is-leap-requires has-thirty-requires returns returns-2 returns-3 returns-4)

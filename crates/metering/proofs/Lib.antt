@@ -1,0 +1,3 @@
+-- Laws of readings: for the proofs of the functions, and for callers.
+pub mod HourLaws
+pub mod Rereading
