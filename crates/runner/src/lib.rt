@@ -18,7 +18,7 @@ ghost use Rattle.runner.specs.Stages.{Stage, start, elements, messages, 
 ghost use Rattle.runner.specs.Parts.{Lent, lentOf, Sized, Fitted, isFitted, endsOf, worldIn, openingIn};
 ghost use Rattle.runner.specs.Holding.{HoldsValues, Holds, Stands, longestText, lastNumber, Advances, advancedTo, waitsAt, goesOn, Reached, Stopped, OpensTables, counted, TakesMessage};
 use calendar::days_in_month;
-use calendar::first_day;
+use calendar::listed_first_day;
 use intake::all_three;
 use intake::is_within;
 use listing::Printed;
@@ -203,7 +203,7 @@ fn open_book(
     );
     if question == 0 {
         let days = days_in_month(book.year, book.month);
-        let first = first_day(book.year, book.month);
+        let first = listed_first_day(book.year, book.month);
         let written = put_book(out, from, book.year, book.month, days, first);
         moved(Phase::Messages, last, book, 1, at, written)
     } else {

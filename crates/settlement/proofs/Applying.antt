@@ -59,7 +59,7 @@ appliable w c b r =
 unfoldable pub zeros : List ℤ
 zeros = replicate 1024 (pos 0)
 
-zero-at : (n k : ℕ) → getD (replicate n (pos 0)) k (pos 0) ≡ pos 0
+pub zero-at : (n k : ℕ) → getD (replicate n (pos 0)) k (pos 0) ≡ pos 0
 zero-at zero k = refl
 zero-at (suc n) zero = refl
 zero-at (suc n) (suc k) = zero-at n k
@@ -95,18 +95,18 @@ module _ (o : Opening) (t : Tables) (ls : List ℤ) (b : Body) (g : Appliable o 
       (λ k l. rw (change-is o t b Measure.quantity (p .quantity) k l) (change-small o t b (g .postable) Measure.quantity k l))
       (λ k l. rw (change-is o t b Measure.amount (p .amount) k l) (change-small o t b (g .postable) Measure.amount k l))
 
-  -- the lines with them are the rules'
-  lines-moved : addedLines ls qs vs (lineCount o) ≡ movedLines o ls t (told o t b)
-  lines-moved = sym (moved-added o ls t (told o t b) qs vs (by-rules o t b Measure.quantity (p .quantity)) (by-rules o t b Measure.amount (p .amount)))
+-- tables of changes that are the rules'
+pub record Rules (o : Opening) (t : Tables) (b : Body) (qs vs : List ℤ) : Type 0 where
+  pub quantity : ByRules o t (told o t b) Measure.quantity qs
+  pub amount : ByRules o t (told o t b) Measure.amount vs
 
-  lines-tested : linesRight o (movedLines o ls t (told o t b)) ≡ allTo (λ k. lineRight (addedLines ls qs vs (lineCount o)) (k * 3)) (lineCount o)
-  lines-tested = fit-is o ls t (told o t b) qs vs (by-rules o t b Measure.quantity (p .quantity)) (by-rules o t b Measure.amount (p .amount))
+pub posted-rules : (o : Opening) (t : Tables) (b : Body) (qs vs : List ℤ) → PostedBoth o t b zeros qs zeros vs → Rules o t b qs vs
+posted-rules o t b qs vs p = record { quantity = by-rules o t b Measure.quantity (p .quantity); amount = by-rules o t b Measure.amount (p .amount) }
 
 -- ---- the world of a book and what is lent with it
 
-module _ (b : Book) (ds : List ℕ) (ps : List ℤ) (ls hs ss rs bs : List ℕ) (lines ts : List ℤ) (body : Body)
-    (g : Appliable (openingOf b ds ps) (tablesOf b ls hs ss rs bs) lines body) (qs vs : List ℤ)
-    (p : PostedBoth (openingOf b ds ps) (tablesOf b ls hs ss rs bs) body zeros qs zeros vs) where
+module _ (b : Book) (ds : List ℕ) (ps : List ℤ) (ls hs ss rs bs : List ℕ) (lines ts : List ℤ) (body : Body) (qs vs : List ℤ)
+    (p : Rules (openingOf b ds ps) (tablesOf b ls hs ss rs bs) body qs vs) where
   abbrev o : Opening
   o = openingOf b ds ps
 
@@ -116,10 +116,14 @@ module _ (b : Book) (ds : List ℕ) (ps : List ℤ) (ls hs ss rs bs : List ℕ) 
   abbrev w : World
   w = worldOf b ds ps ls hs ss rs bs lines ts
 
+  -- the lines with the changes are the rules'
+  lines-moved : addedLines lines qs vs (lineCount o) ≡ movedLines o lines t (told o t body)
+  lines-moved = sym (moved-added o lines t (told o t body) qs vs (p .quantity) (p .amount))
+
   -- the code's test is question 17
   pub fits-is : (r : Bool) → r ≡ (rowsFit (told o t body) && allTo (λ k. lineRight (addedLines lines qs vs (b .suppliers * b .elements)) (k * 3)) (b .suppliers * b .elements)) → question17 w body ≡ r
   unfolding question17 tablesAfter linesAfter lineCount
-  fits-is r e = ap (λ x. rowsFit (told o t body) && x) (lines-tested o t lines body g qs vs p) ∙ sym e
+  fits-is r e = ap (λ x. rowsFit (told o t body) && x) (fit-is o lines t (told o t body) qs vs (p .quantity) (p .amount)) ∙ sym e
 
   -- and what it writes is the rules' next position
   pub applied : question17 w body ≡ true → (r : Book) (ls′ hs′ ss′ rs′ bs′ : List ℕ) → Written b o t body r (tablesOf r ls′ hs′ ss′ rs′ bs′) → (lines′ : List ℤ)
@@ -130,7 +134,7 @@ module _ (b : Book) (ds : List ℕ) (ps : List ℤ) (ls hs ss rs bs : List ℕ) 
         number-is = rw h;
         world = rw h (written-world b r ds ps t body ls′ hs′ ss′ rs′ bs′ lines′ ts v
             ∙ ap (λ (l : List ℤ). record { opening = o; position = record { tables = told o t body; lines = l }; sent = record { totals = ts; round = b .round } })
-            (e ∙ lines-moved o t lines body g qs vs p));
+            (e ∙ lines-moved));
       }
 
 -- a refusal leaves the world as it was

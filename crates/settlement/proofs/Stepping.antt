@@ -290,14 +290,10 @@ module _ (w : World) (c : Whole w) (b : Book) (ls ts : List ℤ) (h : IsWorld w 
 
 -- ---- the list of records as numbers
 
-pub replied-with : (w after : World) (b : Book) (ls ts : List ℤ) (f : Fields) (r : Reply) (lent out : List ℤ) (moved : List ℕ) (n : ℕ) → IsWorld w b ls ts → Answered w after f r (roomIn lent)
-    → Due w b ls ts f (roomIn lent) moved n
+pub due-numbers : (w : World) (b : Book) (ls ts : List ℤ) (f : Fields) (lent out : List ℤ) (moved : List ℕ) (n : ℕ) → IsWorld w b ls ts → Due w b ls ts f (roomIn lent) moved n
     → ((v : World) → IsWorld v b ls ts → out ≡ numbersAfter (listTo (λ i. recordOf v (supplierOf (v .opening) (getD moved i 0)) (elementOf (v .opening) (getD moved i 0))) n) lent)
-    → Replied w after f r lent out
-replied-with w after b ls ts f r lent out moved n h a d p =
-    record {
-      number = a .number;
-      world = a .world;
-      list = p w h ∙ ap (λ rs. numbersAfter rs lent) (sym (d .records));
-      count = a .count;
-    }
+    → out ≡ numbersAfter (recordsOf w f (roomIn lent)) lent
+due-numbers w b ls ts f lent out moved n h d p = p w h ∙ ap (λ rs. numbersAfter rs lent) (sym (d .records))
+
+pub replied-with : (w after : World) (f : Fields) (r : Reply) (lent out : List ℤ) → Answered w after f r (roomIn lent) → out ≡ numbersAfter (recordsOf w f (roomIn lent)) lent → Replied w after f r lent out
+replied-with w after f r lent out a e = record { number = a .number; world = a .world; list = e; count = a .count }

@@ -1,7 +1,7 @@
 // The entry points for messages: judge, changes of lines, question 17, tables and lines, records and what was sent.
 ghost use mathlib.Core.Path.{_≡_};
 ghost use mathlib.Core.List.{List, []};
-ghost use mathlib.Core.Bool.{true, _&&_};
+ghost use mathlib.Core.Bool.{true, false, _&&_};
 ghost use lib.IntN.{ℤ};
 ghost use lib.ListN.{length};
 ghost use Prim.Native.Nat.{ℕ, _*_, _≤_};
@@ -9,20 +9,25 @@ ghost use Rattle.rules.specs.Answers.{numberOf};
 ghost use Rattle.rules.specs.World.{World, openingOf, tablesOf, worldOf};
 ghost use Rattle.rules.specs.Basics.{allTo};
 ghost use Rattle.rules.specs.WellFormed.{rowsFit, lineRight};
-ghost use Rattle.rules.specs.Effects.{told, isRound};
+ghost use Rattle.rules.specs.Effects.{told, isRound, recordsOf};
 ghost use Rattle.rules.specs.declared.Answer.the-variants.{Accepted};
+ghost use Rattle.rules.specs.declared.Body.the-variants.{Reading};
+ghost use Rattle.posting.specs.Posted.{isReading};
 ghost use Rattle.ledger.specs.Added.{addedLines, Changes};
 ghost use Rattle.writing.specs.Recorded.{Countable};
 ghost use Rattle.rules.proofs.Parts.{Whole};
 ghost use Rattle.rounds.specs.Moved.{IsWorld, Settled};
-ghost use Rattle.settlement.specs.Replies.{Appliable, Applied, withRound, Sending, Answered, Due, Replied};
+ghost use Rattle.settlement.specs.Replies.{roomIn, Appliable, Applied, withRound, Sending, Answered, Due, Replied};
+ghost use Rattle.rounds.specs.RecordNumbers.{numbersAfter};
 use book::check_book;
 use intake::Understood;
 use intake::understand;
 use ledger::commit_lines;
+use ledger::commit_own;
 use ledger::lines_fit;
 use messages::decide;
 use messages::number;
+use metering::post_reading;
 use posting::post;
 use rounds::copy_lines;
 use rounds::moved_lines;
@@ -33,6 +38,7 @@ use rules::Body;
 use rules::Book;
 use rules::Fields;
 use writing::rows_fit_after;
+use writing::write_reading;
 use writing::write_tables;
 
 // What an entry point for messages answers: the answer, the book afterwards, and how many records the list now holds.
@@ -86,9 +92,9 @@ fn is_fitting(
     }
 }
 
-// Messages 1 to 7: the changes of the lines, question 17, then tables and lines. Cost: linear in the lines, the point's rows and the days of
-// the month, and in the rows behind the place of a new one.
-fn apply(
+// Messages 1 to 5 and 7: the changes of the lines, question 17, then tables and lines. Cost: linear in the lines, the point's rows and the
+// days of the month, and in the rows behind the place of a new one.
+fn apply_lines(
     book: Book,
     element_data: &[u8],
     prices: &[i64],
@@ -100,7 +106,7 @@ fn apply(
     lines: &mut [i64],
     body: Body,
 ) -> Reply
-    requires { ⌜ Appliable (openingOf book (now element_data) (now prices)) (tablesOf book (now links) (now holders) (now states) (now readings) (now blocks)) (now lines) body ⌝ }
+    requires { ⌜ Appliable (openingOf book (now element_data) (now prices)) (tablesOf book (now links) (now holders) (now states) (now readings) (now blocks)) (now lines) body × (isReading body ≡ false) ⌝ }
     ensures { λ r. ⌜ ((ts : List ℤ) → Applied (worldOf book (now (element_data .entry)) (now (prices .entry)) (now (links .entry)) (now (holders .entry)) (now (states .entry)) (now (readings .entry)) (now (blocks .entry)) (now (lines .entry)) ts) (worldOf (r .book) (now (element_data .entry)) (now (prices .entry)) (now (links .exit)) (now (holders .exit)) (now (states .exit)) (now (readings .exit)) (now (blocks .exit)) (now (lines .exit)) ts) body (numberOf (r .answer))) × (r .records ≡ 0) ⌝ }
 {
     let mut quantities = [0i64; 1024];
@@ -144,6 +150,104 @@ fn apply(
     } else {
         refused(Answer::TableFull, book)
     }
+}
+
+// Message 6: the changes of the lines of the supplier who pays, question 17, then those lines and the reading. Cost: linear in the elements
+// and the point's rows, logarithmic in the other rows.
+fn apply_reading(
+    book: Book,
+    element_data: &[u8],
+    prices: &[i64],
+    links: &[u64],
+    holders: &[u64],
+    states: &[u64],
+    readings: &mut [u32],
+    blocks: &[u8],
+    lines: &mut [i64],
+    point: u64,
+    day: u64,
+    hour: u64,
+    energy: u64,
+) -> Reply
+    requires { ⌜ Appliable (openingOf book (now element_data) (now prices)) (tablesOf book (now links) (now holders) (now states) (now readings) (now blocks)) (now lines) (Reading point day hour energy) ⌝ }
+    ensures { λ r. ⌜ ((ts : List ℤ) → Applied (worldOf book (now (element_data .entry)) (now (prices .entry)) (now (links .entry)) (now (holders .entry)) (now (states .entry)) (now (readings .entry)) (now (blocks .entry)) (now (lines .entry)) ts) (worldOf (r .book) (now (element_data .entry)) (now (prices .entry)) (now (links .entry)) (now (holders .entry)) (now (states .entry)) (now (readings .exit)) (now (blocks .entry)) (now (lines .exit)) ts) (Reading point day hour energy) (numberOf (r .answer))) × (r .records ≡ 0) ⌝ }
+{
+    let mut quantities = [0i64; 64];
+    let mut amounts = [0i64; 64];
+    let payer = post_reading(
+        &mut quantities,
+        &mut amounts,
+        book,
+        element_data,
+        prices,
+        links,
+        holders,
+        states,
+        readings,
+        blocks,
+        point,
+        day,
+        hour,
+        energy,
+    );
+    if commit_own(book, lines, &quantities, &amounts, payer) {
+        write_reading(book, readings, point, day, hour, energy);
+        accepted(book, 0)
+    } else {
+        refused(Answer::TableFull, book)
+    }
+}
+
+// Messages 1 to 7. Cost: as for the two above.
+fn apply(
+    book: Book,
+    element_data: &[u8],
+    prices: &[i64],
+    links: &mut [u64],
+    holders: &mut [u64],
+    states: &mut [u64],
+    readings: &mut [u32],
+    blocks: &mut [u8],
+    lines: &mut [i64],
+    body: Body,
+) -> Reply
+    requires { ⌜ Appliable (openingOf book (now element_data) (now prices)) (tablesOf book (now links) (now holders) (now states) (now readings) (now blocks)) (now lines) body ⌝ }
+    ensures { λ r. ⌜ ((ts : List ℤ) → Applied (worldOf book (now (element_data .entry)) (now (prices .entry)) (now (links .entry)) (now (holders .entry)) (now (states .entry)) (now (readings .entry)) (now (blocks .entry)) (now (lines .entry)) ts) (worldOf (r .book) (now (element_data .entry)) (now (prices .entry)) (now (links .exit)) (now (holders .exit)) (now (states .exit)) (now (readings .exit)) (now (blocks .exit)) (now (lines .exit)) ts) body (numberOf (r .answer))) × (r .records ≡ 0) ⌝ }
+{
+    let Body::Reading {
+        point,
+        day,
+        hour,
+        energy,
+    } = body else {
+        return apply_lines(
+            book,
+            element_data,
+            prices,
+            links,
+            holders,
+            states,
+            readings,
+            blocks,
+            lines,
+            body,
+        );
+    };
+    apply_reading(
+        book,
+        element_data,
+        prices,
+        links,
+        holders,
+        states,
+        readings,
+        blocks,
+        lines,
+        point,
+        day,
+        hour,
+        energy,
+    )
 }
 
 fn with_round(book: Book, round: u64) -> Book
@@ -413,23 +517,23 @@ pub fn due(
 
 // ---- the entry points that are lent a list of records as numbers, six a record
 
-// A message of a book that is well formed, and stays so. Cost: as for `take_within`.
-pub fn message_within(
+// The records that are due, at the front of the list. Linear in the lines.
+fn put_due_within(
     book: Book,
     element_data: &[u8],
     prices: &[i64],
-    links: &mut [u64],
-    holders: &mut [u64],
-    states: &mut [u64],
-    readings: &mut [u32],
-    blocks: &mut [u8],
-    lines: &mut [i64],
-    sent: &mut [i64],
+    links: &[u64],
+    holders: &[u64],
+    states: &[u64],
+    readings: &[u32],
+    blocks: &[u8],
+    lines: &[i64],
+    sent: &[i64],
     records: &mut [i64],
     fields: Fields,
-) -> Reply
+)
     requires { ⌜ Whole (worldOf book (now element_data) (now prices) (now links) (now holders) (now states) (now readings) (now blocks) (now lines) (now sent)) ⌝ }
-    ensures { λ r. ⌜ Replied (worldOf book (now (element_data .entry)) (now (prices .entry)) (now (links .entry)) (now (holders .entry)) (now (states .entry)) (now (readings .entry)) (now (blocks .entry)) (now (lines .entry)) (now (sent .entry))) (worldOf (r .book) (now (element_data .entry)) (now (prices .entry)) (now (links .exit)) (now (holders .exit)) (now (states .exit)) (now (readings .exit)) (now (blocks .exit)) (now (lines .exit)) (now (sent .exit))) fields r (now (records .entry)) (now (records .exit)) × Whole (worldOf (r .book) (now (element_data .entry)) (now (prices .entry)) (now (links .exit)) (now (holders .exit)) (now (states .exit)) (now (readings .exit)) (now (blocks .exit)) (now (lines .exit)) (now (sent .exit))) ⌝ }
+    ensures { λ _. ⌜ now (records .exit) ≡ numbersAfter (recordsOf (worldOf book (now (element_data .entry)) (now (prices .entry)) (now (links .entry)) (now (holders .entry)) (now (states .entry)) (now (readings .entry)) (now (blocks .entry)) (now (lines .entry)) (now (sent .entry))) fields (roomIn (now (records .entry)))) (now (records .entry)) ⌝ }
 {
     let room = records.len() / 6;
     let mut moved = [0u64; 1024];
@@ -449,6 +553,149 @@ pub fn message_within(
         &mut moved,
     );
     put_records(book, lines, sent, &moved, count, records);
+}
+
+// The same: only a round has records, so that no other message looks for them.
+fn list_within(
+    book: Book,
+    element_data: &[u8],
+    prices: &[i64],
+    links: &[u64],
+    holders: &[u64],
+    states: &[u64],
+    readings: &[u32],
+    blocks: &[u8],
+    lines: &[i64],
+    sent: &[i64],
+    records: &mut [i64],
+    fields: Fields,
+)
+    requires { ⌜ Whole (worldOf book (now element_data) (now prices) (now links) (now holders) (now states) (now readings) (now blocks) (now lines) (now sent)) ⌝ }
+    ensures { λ _. ⌜ now (records .exit) ≡ numbersAfter (recordsOf (worldOf book (now (element_data .entry)) (now (prices .entry)) (now (links .entry)) (now (holders .entry)) (now (states .entry)) (now (readings .entry)) (now (blocks .entry)) (now (lines .entry)) (now (sent .entry))) fields (roomIn (now (records .entry)))) (now (records .entry)) ⌝ }
+{
+    if fields.kind == 8 {
+        put_due_within(
+            book,
+            element_data,
+            prices,
+            links,
+            holders,
+            states,
+            readings,
+            blocks,
+            lines,
+            sent,
+            records,
+            fields,
+        );
+    }
+}
+
+// The same of any book and any tables.
+fn put_due(
+    book: Book,
+    element_data: &[u8],
+    prices: &[i64],
+    links: &[u64],
+    holders: &[u64],
+    states: &[u64],
+    readings: &[u32],
+    blocks: &[u8],
+    lines: &[i64],
+    sent: &[i64],
+    records: &mut [i64],
+    fields: Fields,
+)
+    ensures { λ _. ⌜ now (records .exit) ≡ numbersAfter (recordsOf (worldOf book (now (element_data .entry)) (now (prices .entry)) (now (links .entry)) (now (holders .entry)) (now (states .entry)) (now (readings .entry)) (now (blocks .entry)) (now (lines .entry)) (now (sent .entry))) fields (roomIn (now (records .entry)))) (now (records .entry)) ⌝ }
+{
+    let room = records.len() / 6;
+    let mut moved = [0u64; 1024];
+    let count = due(
+        book,
+        element_data,
+        prices,
+        links,
+        holders,
+        states,
+        readings,
+        blocks,
+        lines,
+        sent,
+        room,
+        fields,
+        &mut moved,
+    );
+    put_records(book, lines, sent, &moved, count, records);
+}
+
+// The same: only a round has records.
+fn list_any(
+    book: Book,
+    element_data: &[u8],
+    prices: &[i64],
+    links: &[u64],
+    holders: &[u64],
+    states: &[u64],
+    readings: &[u32],
+    blocks: &[u8],
+    lines: &[i64],
+    sent: &[i64],
+    records: &mut [i64],
+    fields: Fields,
+)
+    ensures { λ _. ⌜ now (records .exit) ≡ numbersAfter (recordsOf (worldOf book (now (element_data .entry)) (now (prices .entry)) (now (links .entry)) (now (holders .entry)) (now (states .entry)) (now (readings .entry)) (now (blocks .entry)) (now (lines .entry)) (now (sent .entry))) fields (roomIn (now (records .entry)))) (now (records .entry)) ⌝ }
+{
+    if fields.kind == 8 {
+        put_due(
+            book,
+            element_data,
+            prices,
+            links,
+            holders,
+            states,
+            readings,
+            blocks,
+            lines,
+            sent,
+            records,
+            fields,
+        );
+    }
+}
+
+// A message of a book that is well formed, and stays so. Cost: as for `take_within`.
+pub fn message_within(
+    book: Book,
+    element_data: &[u8],
+    prices: &[i64],
+    links: &mut [u64],
+    holders: &mut [u64],
+    states: &mut [u64],
+    readings: &mut [u32],
+    blocks: &mut [u8],
+    lines: &mut [i64],
+    sent: &mut [i64],
+    records: &mut [i64],
+    fields: Fields,
+) -> Reply
+    requires { ⌜ Whole (worldOf book (now element_data) (now prices) (now links) (now holders) (now states) (now readings) (now blocks) (now lines) (now sent)) ⌝ }
+    ensures { λ r. ⌜ Replied (worldOf book (now (element_data .entry)) (now (prices .entry)) (now (links .entry)) (now (holders .entry)) (now (states .entry)) (now (readings .entry)) (now (blocks .entry)) (now (lines .entry)) (now (sent .entry))) (worldOf (r .book) (now (element_data .entry)) (now (prices .entry)) (now (links .exit)) (now (holders .exit)) (now (states .exit)) (now (readings .exit)) (now (blocks .exit)) (now (lines .exit)) (now (sent .exit))) fields r (now (records .entry)) (now (records .exit)) × Whole (worldOf (r .book) (now (element_data .entry)) (now (prices .entry)) (now (links .exit)) (now (holders .exit)) (now (states .exit)) (now (readings .exit)) (now (blocks .exit)) (now (lines .exit)) (now (sent .exit))) ⌝ }
+{
+    let room = records.len() / 6;
+    list_within(
+        book,
+        element_data,
+        prices,
+        links,
+        holders,
+        states,
+        readings,
+        blocks,
+        lines,
+        sent,
+        records,
+        fields,
+    );
     take_within(
         book,
         element_data,
@@ -483,8 +730,7 @@ pub fn message(
     ensures { λ r. ⌜ Replied (worldOf book (now (element_data .entry)) (now (prices .entry)) (now (links .entry)) (now (holders .entry)) (now (states .entry)) (now (readings .entry)) (now (blocks .entry)) (now (lines .entry)) (now (sent .entry))) (worldOf (r .book) (now (element_data .entry)) (now (prices .entry)) (now (links .exit)) (now (holders .exit)) (now (states .exit)) (now (readings .exit)) (now (blocks .exit)) (now (lines .exit)) (now (sent .exit))) fields r (now (records .entry)) (now (records .exit)) ⌝ }
 {
     let room = records.len() / 6;
-    let mut moved = [0u64; 1024];
-    let count = due(
+    list_any(
         book,
         element_data,
         prices,
@@ -495,11 +741,9 @@ pub fn message(
         blocks,
         lines,
         sent,
-        room,
+        records,
         fields,
-        &mut moved,
     );
-    put_records(book, lines, sent, &moved, count, records);
     take(
         book,
         element_data,

@@ -188,7 +188,7 @@ fn write_state(book: Book, states: &mut [u64], point: u64, day: u64, state: u64)
 }
 
 // Message 6: the old reading of the hour is replaced. Constant time.
-fn write_reading(book: Book, readings: &mut [u32], point: u64, day: u64, hour: u64, energy: u64)
+pub fn write_reading(book: Book, readings: &mut [u32], point: u64, day: u64, hour: u64, energy: u64)
     requires { ⌜ ReadingFits book (now readings) point day hour energy ⌝ }
     ensures { λ _. ⌜ ((ds : List ℕ) (ps : List ℤ) (ls hs ss bs : List ℕ) → tablesOf book ls hs ss (now (readings .exit)) bs ≡ told (openingOf book ds ps) (tablesOf book ls hs ss (now (readings .entry)) bs) (Reading point day hour energy)) ⌝ }
 {

@@ -13,8 +13,8 @@ open-tables-requires c κs = search needs
 days-in-month-requires : tie.Need-days-in-month-requires
 days-in-month-requires c κs = let a = c .before .before .before .before .before .before .before .before .before .before .before .before .before .before .before .before .before .before .before .before .before .before .before .before .before .before .before .before .args in open-month (a .book) (lentOf (a .element-data .now) (a .prices .now) (a .links .now) (a .holders .now) (a .states .now) (a .readings .now) (a .blocks .now) (a .lines .now) (a .sent .now)) (sym (c .before .before .before .before .before .before .before .before .before .before .before .before .before .open-tables .ensures .answer) ∙ c .if1 .taken)
 
-first-day-requires : tie.Need-first-day-requires
-first-day-requires c κs = let a = c .before .before .before .before .before .before .before .before .before .before .before .before .before .before .before .before .before .before .before .before .before .before .before .before .before .before .before .before .before .args in open-month (a .book) (lentOf (a .element-data .now) (a .prices .now) (a .links .now) (a .holders .now) (a .states .now) (a .readings .now) (a .blocks .now) (a .lines .now) (a .sent .now)) (sym (c .before .before .before .before .before .before .before .before .before .before .before .before .before .before .open-tables .ensures .answer) ∙ c .before .if1 .taken)
+listed-first-day-requires : tie.Need-listed-first-day-requires
+listed-first-day-requires c κs = let a = c .before .before .before .before .before .before .before .before .before .before .before .before .before .before .before .before .before .before .before .before .before .before .before .before .before .before .before .before .before .args in open-month (a .book) (lentOf (a .element-data .now) (a .prices .now) (a .links .now) (a .holders .now) (a .states .now) (a .readings .now) (a .blocks .now) (a .lines .now) (a .sent .now)) (sym (c .before .before .before .before .before .before .before .before .before .before .before .before .before .before .open-tables .ensures .answer) ∙ c .before .if1 .taken)
 
 put-book-requires : tie.Need-put-book-requires
 put-book-requires c κs = search needs
@@ -55,7 +55,7 @@ same-length-8 c = search needs
 returns : tie.Need-returns
 returns c =
     let a = c .before .before .before .before .before .before .before .before .before .before .before .before .before .before .before .before .before .before .before .before .before .before .before .before .before .before .before .before .before .before .before .before .before .before .before .args in
-    (λ h values v. book-opens (a .book) (lentOf (a .element-data .now) (a .prices .now) (a .links .now) (a .holders .now) (a .states .now) (a .readings .now) (a .blocks .now) (a .lines .now) (a .sent .now)) _ (c .before .before .before .before .before .before .before .before .before .before .before .before .before .before .before .before .before .before .before .before .open-tables .result) (c .before .before .before .before .before .before .before .before .before .before .before .before .before .before .before .before .before .before .before .before .open-tables .ensures) h values v _ _ (a .at) (a .from) (c .before .before .before .put-book .result) (a .last) (c .moved .result) (c .before .before .before .before .before .before .before .if1 .taken) (c .before .before .before .before .before .before .days-in-month .result) (c .before .before .before .before .before .first-day .result) (c .before .before .before .before .before .before .days-in-month .ensures) (c .before .before .before .before .before .first-day .ensures) (c .before .before .before .put-book .ensures) (c .moved .ensures), ap (λ (r : Advanced). r .more) (c .moved .ensures))
+    (λ h values v. book-opens (a .book) (lentOf (a .element-data .now) (a .prices .now) (a .links .now) (a .holders .now) (a .states .now) (a .readings .now) (a .blocks .now) (a .lines .now) (a .sent .now)) _ (c .before .before .before .before .before .before .before .before .before .before .before .before .before .before .before .before .before .before .before .before .open-tables .result) (c .before .before .before .before .before .before .before .before .before .before .before .before .before .before .before .before .before .before .before .before .open-tables .ensures) h values v _ _ (a .at) (a .from) (c .before .before .before .put-book .result) (a .last) (c .moved .result) (c .before .before .before .before .before .before .before .if1 .taken) (c .before .before .before .before .before .before .days-in-month .result) (c .before .before .before .before .before .listed-first-day .result) (c .before .before .before .before .before .before .days-in-month .ensures) (c .before .before .before .before .before .listed-first-day .ensures) (c .before .before .before .put-book .ensures) (c .moved .ensures), ap (λ (r : Advanced). r .more) (c .moved .ensures))
 
 same-length-9 : tie.Need-same-length-9
 same-length-9 c = search needs
@@ -92,7 +92,7 @@ open-book-spec =
     (tie.spec
     open-tables-requires
     days-in-month-requires
-    first-day-requires
+    listed-first-day-requires
     put-book-requires
     moved-requires
     put-refused-requires

@@ -1,92 +1,19 @@
--- The changes are the rules', so the test is question 17, and what is written is the rules' next position; a refusal has written nothing.
-use mathlib.Core.Path.{sym, _∙_}
-use Rattle.rules.specs.World.{openingOf, tablesOf, lineCount}
-use Rattle.rules.proofs.Tests.{both}
-use Rattle.writing.proofs.Asks.{countable}
-use Rattle.writing.proofs.Whole.{recordable-any}
-use Rattle.settlement.proofs.Applying.{zeros, zeros-room, changed, fits-is, applied, applied-not}
+-- A reading has its own function.
+use Rattle.settlement.proofs.ReadingApplied.{other-body}
 use native.Mathlib.Omega.{arith}
 use borrow.Author.Needs.{needs}
 use Rattle.settlement.proofs.apply.Statement.{statement}
 use Rattle.settlement.proofs.apply.Tie as tie
 use Rattle.settlement.proofs.apply.Reads as reads
 use Rattle.settlement.proofs.apply.Lts as lts
-use Rattle.ledger.proofs.commit_lines.Reads as commit-lines-reads
-use Rattle.posting.proofs.post.Reads as post-reads
-use Rattle.settlement.proofs.accepted.Reads as accepted-reads
-use Rattle.settlement.proofs.is_fitting.Reads as is-fitting-reads
-use Rattle.settlement.proofs.refused.Reads as refused-reads
-use Rattle.writing.proofs.write_tables.Reads as write-tables-reads
+use Rattle.settlement.proofs.apply_lines.Reads as apply-lines-reads
+use Rattle.settlement.proofs.apply_reading.Reads as apply-reading-reads
 
-slice-aggregate-post : tie.Need-slice-aggregate-post
-slice-aggregate-post c = search needs
+enum-known-body : tie.Need-enum-known-body
+enum-known-body c = search needs
 
-slice-aggregate-post-2 : tie.Need-slice-aggregate-post-2
-slice-aggregate-post-2 c = search needs
-
-post-requires : tie.Need-post-requires
-unfolding zeros lineCount
-post-requires c κs =
-    let a = c .before .before .before .before .before .before .before .before .before .before .before .before .before .args in
-    let g = c .before .before .before .before .before .before .before .before .before .before .before .before .before .pre in
-    let o = openingOf (a .book) (a .element-data .now) (a .prices .now) in
-    let t = tablesOf (a .book) (a .links .now) (a .holders .now) (a .states .now) (a .readings .now) (a .blocks .now) in
-    let r = zeros-room (a .book .elements) (g .postable .whole .limited .elements) in
-    (g .postable, (r, r))
-
-slice-aggregate-is-fitting : tie.Need-slice-aggregate-is-fitting
-slice-aggregate-is-fitting c = search needs
-
-slice-aggregate-is-fitting-2 : tie.Need-slice-aggregate-is-fitting-2
-slice-aggregate-is-fitting-2 c = search needs
-
-is-fitting-requires : tie.Need-is-fitting-requires
-unfolding zeros lineCount
-is-fitting-requires c κs =
-    let a = c .before .before .before .before .before .before .before .before .before .before .before .before .before .before .before .before .before .before .before .before .before .before .args in
-    let g = c .before .before .before .before .before .before .before .before .before .before .before .before .before .before .before .before .before .before .before .before .before .before .pre in
-    let o = openingOf (a .book) (a .element-data .now) (a .prices .now) in
-    let t = tablesOf (a .book) (a .links .now) (a .holders .now) (a .states .now) (a .readings .now) (a .blocks .now) in
-    (countable (a .book) (a .element-data .now) (a .prices .now) (a .links .now) (a .holders .now) (a .states .now) (a .readings .now) (a .blocks .now) (a .body) (g .recordable), changed o t (a .lines .now) (a .body) g _ _ (c .before .before .before .before .before .before .before .before .post .ensures))
-
-write-tables-requires : tie.Need-write-tables-requires
-write-tables-requires c κs =
-    let a = c .before .before .before .before .before .before .before .before .before .before .before .before .before .before .before .before .before .before .before .before .before .before .before .before .before .before .before .before .before .args in
-    let g = c .before .before .before .before .before .before .before .before .before .before .before .before .before .before .before .before .before .before .before .before .before .before .before .before .before .before .before .before .before .pre in
-    let o = openingOf (a .book) (a .element-data .now) (a .prices .now) in
-    let t = tablesOf (a .book) (a .links .now) (a .holders .now) (a .states .now) (a .readings .now) (a .blocks .now) in
-    ((λ ps. recordable-any (a .book) (a .element-data .now) (a .prices .now) ps t (a .body) (g .recordable)), λ ps. both _ _ (sym (c .before .before .before .before .before .before .is-fitting .ensures (a .element-data .now) ps (a .readings .now) (a .blocks .now)) ∙ c .before .before .before .before .before .if1 .taken) .0)
-
-mul-count : tie.Need-mul-count
-unfolding zeros lineCount
-mul-count c =
-    let a = c .before .before .before .before .before .before .before .before .before .before .before .before .before .before .before .before .before .before .before .before .before .before .before .before .before .before .before .before .before .before .before .before .before .before .before .before .before .before .before .before .before .args in
-    let g = c .before .before .before .before .before .before .before .before .before .before .before .before .before .before .before .before .before .before .before .before .before .before .before .before .before .before .before .before .before .before .before .before .before .before .before .before .before .before .before .before .before .pre in
-    let o = openingOf (a .book) (a .element-data .now) (a .prices .now) in
-    let t = tablesOf (a .book) (a .links .now) (a .holders .now) (a .states .now) (a .readings .now) (a .blocks .now) in
-    let h = changed o t (a .lines .now) (a .body) g _ _ (c .before .before .before .before .before .before .before .before .before .before .before .before .before .before .before .before .before .before .before .before .before .before .before .before .before .before .before .post .ensures) .few in
-    search needs
-
-slice-aggregate-commit-lines : tie.Need-slice-aggregate-commit-lines
-slice-aggregate-commit-lines c = sym (c .before .before .before .before .before .before .before .before .before .before .before .before .before .before .before .before .before .before .before .before .before .before .before .before .before .before .before .before .before .post .ensures .quantity .same-length)
-
-slice-aggregate-commit-lines-2 : tie.Need-slice-aggregate-commit-lines-2
-slice-aggregate-commit-lines-2 c = sym (c .before .before .before .before .before .before .before .before .before .before .before .before .before .before .before .before .before .before .before .before .before .before .before .before .before .before .before .before .before .before .post .ensures .amount .same-length)
-
-commit-lines-requires : tie.Need-commit-lines-requires
-unfolding zeros lineCount
-commit-lines-requires c κs =
-    let a = c .before .before .before .before .before .before .before .before .before .before .before .before .before .before .before .before .before .before .before .before .before .before .before .before .before .before .before .before .before .before .before .before .before .before .before .before .before .before .before .before .before .before .before .before .args in
-    let g = c .before .before .before .before .before .before .before .before .before .before .before .before .before .before .before .before .before .before .before .before .before .before .before .before .before .before .before .before .before .before .before .before .before .before .before .before .before .before .before .before .before .before .before .before .pre in
-    let o = openingOf (a .book) (a .element-data .now) (a .prices .now) in
-    let t = tablesOf (a .book) (a .links .now) (a .holders .now) (a .states .now) (a .readings .now) (a .blocks .now) in
-    changed o t (a .lines .now) (a .body) g _ _ (c .before .before .before .before .before .before .before .before .before .before .before .before .before .before .before .before .before .before .before .before .before .before .before .before .before .before .before .before .before .before .post .ensures)
-
-accepted-requires : tie.Need-accepted-requires
-accepted-requires c κs = search needs
-
-refused-requires : tie.Need-refused-requires
-refused-requires c κs = search needs
+apply-lines-requires : tie.Need-apply-lines-requires
+apply-lines-requires c κs = (c .before .before .before .before .before .before .before .before .before .before .before .before .before .pre, other-body (c .before .before .before .before .before .before .before .before .before .before .before .before .before .args .body) (c .before .before .before .before .before .before .match .keys2))
 
 same-length : tie.Need-same-length
 same-length c = search needs
@@ -107,18 +34,10 @@ same-length-6 : tie.Need-same-length-6
 same-length-6 c = search needs
 
 returns : tie.Need-returns
-unfolding zeros lineCount
-returns c =
-    let a = c .before .before .before .before .before .before .before .before .before .before .before .before .before .before .before .before .before .before .before .before .before .before .before .before .before .before .before .before .before .before .before .before .before .before .before .before .before .before .before .before .before .before .before .before .before .before .before .args in
-    let g = c .before .before .before .before .before .before .before .before .before .before .before .before .before .before .before .before .before .before .before .before .before .before .before .before .before .before .before .before .before .before .before .before .before .before .before .before .before .before .before .before .before .before .before .before .before .before .before .pre in
-    let o = openingOf (a .book) (a .element-data .now) (a .prices .now) in
-    let t = tablesOf (a .book) (a .links .now) (a .holders .now) (a .states .now) (a .readings .now) (a .blocks .now) in
-    let e = c .accepted .ensures in (
-      λ ts.
-          let q = fits-is (a .book) (a .element-data .now) (a .prices .now) (a .links .now) (a .holders .now) (a .states .now) (a .readings .now) (a .blocks .now) (a .lines .now) ts (a .body) g _ _ (c .before .before .before .before .before .before .before .before .before .before .before .before .before .before .before .before .before .before .before .before .before .before .before .before .before .before .before .before .before .before .before .before .before .post .ensures) _ (c .before .before .before .before .before .before .before .before .before .before .before .before .before .before .before .before .before .before .before .before .before .before .before .before .is-fitting .ensures (a .element-data .now) (a .prices .now) (a .readings .now) (a .blocks .now)) ∙ c .before .before .before .before .before .before .before .before .before .before .before .before .before .before .before .before .before .before .before .before .before .before .before .if1 .taken in
-          rw (e .0, e .1) (applied (a .book) (a .element-data .now) (a .prices .now) (a .links .now) (a .holders .now) (a .states .now) (a .readings .now) (a .blocks .now) (a .lines .now) ts (a .body) g _ _ (c .before .before .before .before .before .before .before .before .before .before .before .before .before .before .before .before .before .before .before .before .before .before .before .before .before .before .before .before .before .before .before .before .before .post .ensures) q _ _ _ _ _ _ (c .before .before .before .before .before .before .before .before .before .before .before .before .before .before .before .before .before .write-tables .ensures (a .prices .now)) _ (c .before .before .commit-lines .ensures)),
-      e .2,
-    )
+returns c = search needs
+
+apply-reading-requires : tie.Need-apply-reading-requires
+apply-reading-requires c κs = rw (c .before .before .before .before .before .before .before .body .given .1) at (c .before .before .before .before .before .before .before .before .before .before .before .before .before .before .before .pre)
 
 same-length-7 : tie.Need-same-length-7
 same-length-7 c = search needs
@@ -139,36 +58,14 @@ same-length-12 : tie.Need-same-length-12
 same-length-12 c = search needs
 
 returns-2 : tie.Need-returns-2
-unfolding zeros lineCount
-returns-2 c =
-    let a = c .before .before .before .before .before .before .before .before .before .before .before .before .before .before .before .before .before .before .before .before .before .before .before .before .before .args in
-    let g = c .before .before .before .before .before .before .before .before .before .before .before .before .before .before .before .before .before .before .before .before .before .before .before .before .before .pre in
-    let o = openingOf (a .book) (a .element-data .now) (a .prices .now) in
-    let t = tablesOf (a .book) (a .links .now) (a .holders .now) (a .states .now) (a .readings .now) (a .blocks .now) in
-    let e = c .refused .ensures in (
-      λ ts.
-          let q = fits-is (a .book) (a .element-data .now) (a .prices .now) (a .links .now) (a .holders .now) (a .states .now) (a .readings .now) (a .blocks .now) (a .lines .now) ts (a .body) g _ _ (c .before .before .before .before .before .before .before .before .before .before .before .post .ensures) _ (c .before .before .is-fitting .ensures (a .element-data .now) (a .prices .now) (a .readings .now) (a .blocks .now)) ∙ c .before .if1 .left in
-          rw (e .0, e .1) (applied-not _ (a .body) q),
-      e .2,
-    )
+returns-2 c = rw (c .before .before .before .before .before .before .before .before .before .before .before .body .given .1) (c .before .before .before .apply-reading .ensures)
 
 pub apply-spec : {M : Type 1} → statement M
 apply-spec =
     tie.close
     (tie.spec
-    slice-aggregate-post
-    slice-aggregate-post-2
-    post-requires
-    slice-aggregate-is-fitting
-    slice-aggregate-is-fitting-2
-    is-fitting-requires
-    write-tables-requires
-    mul-count
-    slice-aggregate-commit-lines
-    slice-aggregate-commit-lines-2
-    commit-lines-requires
-    accepted-requires
-    refused-requires
+    enum-known-body
+    apply-lines-requires
     same-length
     same-length-2
     same-length-3
@@ -176,6 +73,7 @@ apply-spec =
     same-length-5
     same-length-6
     returns
+    apply-reading-requires
     same-length-7
     same-length-8
     same-length-9

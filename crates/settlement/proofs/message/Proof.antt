@@ -1,6 +1,5 @@
 -- The records that are due are put into the list before anything is written; the rest is the message with so much room.
 use Rattle.rules.specs.World.{worldOf}
-use Rattle.rounds.proofs.Sending.{world-of}
 use Rattle.settlement.proofs.Stepping.{replied-with}
 use native.Mathlib.Omega.{arith}
 use borrow.Author.Needs.{needs}
@@ -8,27 +7,11 @@ use Rattle.settlement.proofs.message.Statement.{statement}
 use Rattle.settlement.proofs.message.Tie as tie
 use Rattle.settlement.proofs.message.Reads as reads
 use Rattle.settlement.proofs.message.Lts as lts
-use Rattle.rounds.proofs.put_records.Reads as put-records-reads
-use Rattle.settlement.proofs.due.Reads as due-reads
+use Rattle.settlement.proofs.list_any.Reads as list-any-reads
 use Rattle.settlement.proofs.take.Reads as take-reads
 
-slice-aggregate-due : tie.Need-slice-aggregate-due
-slice-aggregate-due c = search needs
-
-due-requires : tie.Need-due-requires
-due-requires c κs = search needs
-
-slice-aggregate-put-records : tie.Need-slice-aggregate-put-records
-slice-aggregate-put-records c = search needs
-
-put-records-requires : tie.Need-put-records-requires
-put-records-requires c κs =
-    let a = c .before .before .before .before .before .before .before .before .before .before .before .before .before .before .before .before .before .before .before .before .args in
-    let w = worldOf (a .book) (a .element-data .now) (a .prices .now) (a .links .now) (a .holders .now) (a .states .now) (a .readings .now) (a .blocks .now) (a .lines .now) (a .sent .now) in
-    let d = c .before .before .before .before .before .due .ensures in
-    let k = c .before .before .before .before .before .due .kept .1 .1 .1 .1 .1 .1 .1 .1 .1 .1 .1 .1 .0 in
-    let l = d .few in
-    (d .settled, (omega (arith, d .listed, k), omega (arith, l), d .below))
+list-any-requires : tie.Need-list-any-requires
+list-any-requires c κs = search needs
 
 take-requires : tie.Need-take-requires
 take-requires c κs = search needs
@@ -59,18 +42,15 @@ same-length-8 c = search needs
 
 returns : tie.Need-returns
 returns c =
-    let a = c .before .before .before .before .before .before .before .before .before .before .before .before .before .before .before .before .before .before .before .before .before .before .before .before .before .before .before .before .before .before .before .before .before .before .before .before .before .before .before .before .before .before .args in
-    let w = worldOf (a .book) (a .element-data .now) (a .prices .now) (a .links .now) (a .holders .now) (a .states .now) (a .readings .now) (a .blocks .now) (a .lines .now) (a .sent .now) in
-    replied-with w _ _ _ _ (a .fields) _ (a .records .now) _ _ _ (world-of (a .book) (a .element-data .now) (a .prices .now) (a .links .now) (a .holders .now) (a .states .now) (a .readings .now) (a .blocks .now) (a .lines .now) (a .sent .now)) (c .before .before .before .before .before .before .before .before .before .before .before .before .take .ensures) (c .before .before .before .before .before .before .before .before .before .before .before .before .before .before .before .before .before .before .before .before .before .before .before .before .before .before .before .due .ensures) (c .before .before .before .before .before .before .before .before .before .before .before .before .before .before .before .before .before .before .before .before .before .put-records .ensures)
+    let a = c .before .before .before .before .before .before .before .before .before .before .before .before .before .before .before .before .before .before .before .before .before .before .before .before .before .before .before .before .before .before .before .before .before .before .before .before .args in
+    let t = c .before .before .before .before .before .before .before .before .before .before .before .before .take .ensures in
+    replied-with (worldOf (a .book) (a .element-data .now) (a .prices .now) (a .links .now) (a .holders .now) (a .states .now) (a .readings .now) (a .blocks .now) (a .lines .now) (a .sent .now)) _ (a .fields) _ (a .records .now) _ t (c .before .before .before .before .before .before .before .before .before .before .before .before .before .before .before .before .before .before .before .before .before .list-any .ensures)
 
 pub message-spec : {M : Type 1} → statement M
 message-spec =
     tie.close
     (tie.spec
-    slice-aggregate-due
-    due-requires
-    slice-aggregate-put-records
-    put-records-requires
+    list-any-requires
     take-requires
     same-length
     same-length-2

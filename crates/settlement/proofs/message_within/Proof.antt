@@ -1,6 +1,5 @@
 -- The records that are due are put into the list before anything is written; the rest is the message with so much room.
 use Rattle.rules.specs.World.{worldOf}
-use Rattle.rounds.proofs.Sending.{world-of}
 use Rattle.settlement.proofs.Stepping.{replied-with}
 use native.Mathlib.Omega.{arith}
 use borrow.Author.Needs.{needs}
@@ -8,27 +7,11 @@ use Rattle.settlement.proofs.message_within.Statement.{statement}
 use Rattle.settlement.proofs.message_within.Tie as tie
 use Rattle.settlement.proofs.message_within.Reads as reads
 use Rattle.settlement.proofs.message_within.Lts as lts
-use Rattle.rounds.proofs.put_records.Reads as put-records-reads
-use Rattle.settlement.proofs.due_within.Reads as due-within-reads
+use Rattle.settlement.proofs.list_within.Reads as list-within-reads
 use Rattle.settlement.proofs.take_within.Reads as take-within-reads
 
-slice-aggregate-due-within : tie.Need-slice-aggregate-due-within
-slice-aggregate-due-within c = search needs
-
-due-within-requires : tie.Need-due-within-requires
-due-within-requires c κs = search needs
-
-slice-aggregate-put-records : tie.Need-slice-aggregate-put-records
-slice-aggregate-put-records c = search needs
-
-put-records-requires : tie.Need-put-records-requires
-put-records-requires c κs =
-    let a = c .before .before .before .before .before .before .before .before .before .before .before .before .before .before .before .before .before .before .before .before .args in
-    let w = worldOf (a .book) (a .element-data .now) (a .prices .now) (a .links .now) (a .holders .now) (a .states .now) (a .readings .now) (a .blocks .now) (a .lines .now) (a .sent .now) in
-    let d = c .before .before .before .before .before .due-within .ensures in
-    let k = c .before .before .before .before .before .due-within .kept .1 .1 .1 .1 .1 .1 .1 .1 .1 .1 .1 .1 .0 in
-    let l = d .few in
-    (d .settled, (omega (arith, d .listed, k), omega (arith, l), d .below))
+list-within-requires : tie.Need-list-within-requires
+list-within-requires c κs = search needs
 
 take-within-requires : tie.Need-take-within-requires
 take-within-requires c κs = search needs
@@ -59,19 +42,15 @@ same-length-8 c = search needs
 
 returns : tie.Need-returns
 returns c =
-    let a = c .before .before .before .before .before .before .before .before .before .before .before .before .before .before .before .before .before .before .before .before .before .before .before .before .before .before .before .before .before .before .before .before .before .before .before .before .before .before .before .before .before .before .args in
-    let w = worldOf (a .book) (a .element-data .now) (a .prices .now) (a .links .now) (a .holders .now) (a .states .now) (a .readings .now) (a .blocks .now) (a .lines .now) (a .sent .now) in
+    let a = c .before .before .before .before .before .before .before .before .before .before .before .before .before .before .before .before .before .before .before .before .before .before .before .before .before .before .before .before .before .before .before .before .before .before .before .before .args in
     let t = c .before .before .before .before .before .before .before .before .before .before .before .before .take-within .ensures in
-    (replied-with w _ _ _ _ (a .fields) _ (a .records .now) _ _ _ (world-of (a .book) (a .element-data .now) (a .prices .now) (a .links .now) (a .holders .now) (a .states .now) (a .readings .now) (a .blocks .now) (a .lines .now) (a .sent .now)) (t .0) (c .before .before .before .before .before .before .before .before .before .before .before .before .before .before .before .before .before .before .before .before .before .before .before .before .before .before .before .due-within .ensures) (c .before .before .before .before .before .before .before .before .before .before .before .before .before .before .before .before .before .before .before .before .before .put-records .ensures), t .1)
+    (replied-with (worldOf (a .book) (a .element-data .now) (a .prices .now) (a .links .now) (a .holders .now) (a .states .now) (a .readings .now) (a .blocks .now) (a .lines .now) (a .sent .now)) _ (a .fields) _ (a .records .now) _ (t .0) (c .before .before .before .before .before .before .before .before .before .before .before .before .before .before .before .before .before .before .before .before .before .list-within .ensures), t .1)
 
 pub message-within-spec : {M : Type 1} → statement M
 message-within-spec =
     tie.close
     (tie.spec
-    slice-aggregate-due-within
-    due-within-requires
-    slice-aggregate-put-records
-    put-records-requires
+    list-within-requires
     take-within-requires
     same-length
     same-length-2
