@@ -11,6 +11,7 @@ pub mod DayOwed
 pub mod Moves
 pub mod Kinds
 pub mod Payment
+pub mod Spans
 pub mod WholeBook
 pub mod RowRange
 pub mod Posted

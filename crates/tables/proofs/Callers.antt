@@ -118,7 +118,7 @@ module _ (size : ℕ) where
       (λ u. rw (t, u, d) (ap suc (length-record pos p a v ha hv m) ∙ given-suc (recordedOn size xs p a) (length xs)))))
 
   -- between the day and the next recorded one nothing is recorded, and there something is
-  next-clear : (p a d : ℕ) (ws : List ℕ) → a < d → d < nextRecorded size ws p a → recordedOn size ws p d ≡ none
+  pub next-clear : (p a d : ℕ) (ws : List ℕ) → a < d → d < nextRecorded size ws p a → recordedOn size ws p d ≡ none
   unfolding nextRecorded
   next-clear p a d [] h l = recorded-nil size p d
   next-clear p a d (w ∷ ws) h l = cases (eqb (valuePoint size w) p && ltb a (valueFirst size w))
