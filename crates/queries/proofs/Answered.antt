@@ -6,7 +6,8 @@ use mathlib.Core.Logic.{_≢_}
 use mathlib.Core.Bool.{true}
 use mathlib.Core.List.{[]}
 use lib.ListN.{length, take}
-use borrow.Author.Tests.{ne-eqb}
+use lib.Dec.{eqb}
+use borrow.Author.Tests.{eq-eqb, ne-eqb}
 use native.Mathlib.Nat.{mul-le-mul}
 use native.Mathlib.Omega.{arith}
 use Rattle.rules.specs.declared.Answer.{Answer}
@@ -25,7 +26,7 @@ use Rattle.rules.proofs.LineQuery.{query-stored}
 use Rattle.rules.proofs.Demand3.{demand3}
 use Rattle.pricing.specs.Bounds.{LineOf}
 use Rattle.book.proofs.Passes.{measured}
-use Rattle.queries.specs.Promises.{LineAnswered}
+use Rattle.queries.specs.Promises.{isLine, LineAnswered}
 use Rattle.queries.proofs.Asks.{line-passed}
 
 -- every product fits
@@ -36,14 +37,14 @@ place-small elements s h k =
     omega arith
 
 module _ (w : World) (s e : ℕ) where
-  answered : (r : LineAnswer) → lineResult r ≡ lineQuery w s e → LineAnswered w s e r
-  answered r h = record { stored = h; settled = λ w₀ vs a i b. h ∙ ap (λ x. lineQuery x s e) i ∙ demand3 w₀ a vs .fresh s e b }
+  answered : (r : LineAnswer) → isLine r ≡ eqb (lineNumber w s e) 0 → lineResult r ≡ lineQuery w s e → LineAnswered w s e r
+  answered r t h = record { told = t; stored = h; settled = λ w₀ vs a i b. h ∙ ap (λ x. lineQuery x s e) i ∙ demand3 w₀ a vs .fresh s e b }
 
   -- ---- refused
 
   pub line-refused : lineNumber w s e ≢ 0 → (a : Answer) → numberOf a ≡ lineNumber w s e → LineAnswered w s e (LineAnswer.Refused a)
   unfolding lineQuery
-  line-refused h a k = answered (LineAnswer.Refused a) (rw (ne-eqb _ _ h, k))
+  line-refused h a k = answered (LineAnswer.Refused a) (sym (ne-eqb _ _ h)) (rw (ne-eqb _ _ h, k))
 
   -- ---- answered
 
@@ -74,7 +75,7 @@ module _ (w : World) (s e : ℕ) where
     unfolding stored lineNamed
     line-named r m n l =
         let k = line-passed w s e h in
-        answered (LineAnswer.Line (r .quantity) (r .kroner) (r .billionths)) (rw (l .quantity, l .kroner, l .billionths) (sym (query-stored w (k .0) s e (k .1))))
+        answered (LineAnswer.Line (r .quantity) (r .kroner) (r .billionths)) (sym (eq-eqb _ _ h)) (rw (l .quantity, l .kroner, l .billionths) (sym (query-stored w (k .0) s e (k .1))))
 
 -- ---- the periods
 

@@ -1,5 +1,5 @@
-// The entry points that open a book and that answer questions about one. Every input is arbitrary: each entry point asks the
-// questions of the book first.
+// The entry points that open a book and that answer questions about one. Where the input is arbitrary the questions of the book come
+// first; the forms named `within` are for a book that is well formed, and ask only the query's own.
 ghost use mathlib.Core.Path.{_≡_};
 ghost use mathlib.Core.List.{List};
 ghost use Prim.Native.Nat.{ℕ, _+_, _-_, _*_, _≤_, _<_};
@@ -10,10 +10,11 @@ ghost use Rattle.rules.specs.Basics.{within, anyTo};
 ghost use Rattle.rules.specs.World.{openingOf, tablesOf, worldOf, countingState, linkedOn};
 ghost use Rattle.rules.specs.Effects.{ask};
 ghost use Rattle.rules.specs.Queries.{lineNumber, periodsNumber, periodsQuery, dayNumber, lacksHolder};
-ghost use Rattle.rules.specs.Answers.{numberOf, DayAnswered};
+ghost use Rattle.rules.specs.Answers.{numberOf};
+ghost use Rattle.rules.proofs.Parts.{Whole};
 ghost use Rattle.tables.specs.Order.{LinkRows};
 ghost use Rattle.messages.specs.Decided.{orNext};
-ghost use Rattle.queries.specs.Promises.{freshBook, OpenedAs, LineAnswered};
+ghost use Rattle.queries.specs.Promises.{freshBook, OpenedAs, LineAnswered, DayTold};
 ghost use Rattle.queries.specs.Days.{PointAsked, InMonth};
 use book::check_book;
 use book::check_opening;
@@ -187,8 +188,23 @@ fn ask_element(book: Book, element: u64) -> Answer
 
 // ---- the line query
 
-// The first of the line query's questions that says no.
-fn line_number(
+// Question 6 of the supplier number, then question 8.
+fn ask_line(book: Book, supplier: u64, element: u64) -> Answer
+    ensures { λ r. ⌜ numberOf r ≡ ask (within 1 (book .suppliers) supplier) 6 (ask (ltb element (book .elements)) 8 0) ⌝ }
+{
+    first_no(ask_supplier(book, supplier), ask_element(book, element))
+}
+
+// Where a line's three numbers begin.
+fn line_place(elements: u64, supplier: u64, element: u64) -> usize
+    requires { ⌜ (1 ≤ supplier) × ((supplier ≤ 16) × ((elements ≤ 64) × (element < elements))) ⌝ }
+    ensures { λ r. ⌜ r ≡ ((supplier - 1) * elements + element) * 3 ⌝ }
+{
+    ((supplier - 1) * elements + element) as usize * 3
+}
+
+// The line of a supplier and an element of a book that is well formed: the quantity and the amount. Constant time.
+pub fn line_within(
     book: Book,
     element_data: &[u8],
     prices: &[i64],
@@ -201,36 +217,24 @@ fn line_number(
     sent: &[i64],
     supplier: u64,
     element: u64,
-) -> Answer
-    ensures { λ r. ⌜ numberOf r ≡ lineNumber (worldOf book (now (element_data .entry)) (now (prices .entry)) (now (links .entry)) (now (holders .entry)) (now (states .entry)) (now (readings .entry)) (now (blocks .entry)) (now (lines .entry)) (now (sent .entry))) supplier element ⌝ }
+) -> LineAnswer
+    requires { ⌜ Whole (worldOf book (now element_data) (now prices) (now links) (now holders) (now states) (now readings) (now blocks) (now lines) (now sent)) ⌝ }
+    ensures { λ r. ⌜ LineAnswered (worldOf book (now (element_data .entry)) (now (prices .entry)) (now (links .entry)) (now (holders .entry)) (now (states .entry)) (now (readings .entry)) (now (blocks .entry)) (now (lines .entry)) (now (sent .entry))) supplier element r ⌝ }
 {
-    let checked = check_book(
-        book,
-        element_data,
-        prices,
-        links,
-        holders,
-        states,
-        readings,
-        blocks,
-        lines,
-        sent,
-    );
-    first_no(
-        checked,
-        first_no(ask_supplier(book, supplier), ask_element(book, element)),
-    )
+    let asked = ask_line(book, supplier, element);
+    if number(asked) == 0 {
+        let stored = line_at(lines, line_place(book.elements, supplier, element));
+        LineAnswer::Line {
+            quantity: stored.quantity,
+            kroner: stored.kroner,
+            billionths: stored.billionths,
+        }
+    } else {
+        LineAnswer::Refused(asked)
+    }
 }
 
-// Where a line's three numbers begin.
-fn line_place(elements: u64, supplier: u64, element: u64) -> usize
-    requires { ⌜ (1 ≤ supplier) × ((supplier ≤ 16) × ((elements ≤ 64) × (element < elements))) ⌝ }
-    ensures { λ r. ⌜ r ≡ ((supplier - 1) * elements + element) * 3 ⌝ }
-{
-    ((supplier - 1) * elements + element) as usize * 3
-}
-
-// The line of a supplier and an element: the quantity and the amount. Linear in what is lent, for the questions of the book.
+// The same of any book and any tables. Linear in what is lent, for the questions of the book.
 pub fn line(
     book: Book,
     element_data: &[u8],
@@ -247,7 +251,7 @@ pub fn line(
 ) -> LineAnswer
     ensures { λ r. ⌜ LineAnswered (worldOf book (now (element_data .entry)) (now (prices .entry)) (now (links .entry)) (now (holders .entry)) (now (states .entry)) (now (readings .entry)) (now (blocks .entry)) (now (lines .entry)) (now (sent .entry))) supplier element r ⌝ }
 {
-    let asked = line_number(
+    let checked = check_book(
         book,
         element_data,
         prices,
@@ -258,24 +262,51 @@ pub fn line(
         blocks,
         lines,
         sent,
-        supplier,
-        element,
     );
-    if number(asked) == 0 {
-        let stored = line_at(lines, line_place(book.elements, supplier, element));
-        LineAnswer::Line {
-            quantity: stored.quantity,
-            kroner: stored.kroner,
-            billionths: stored.billionths,
-        }
+    if number(checked) == 0 {
+        line_within(
+            book,
+            element_data,
+            prices,
+            links,
+            holders,
+            states,
+            readings,
+            blocks,
+            lines,
+            sent,
+            supplier,
+            element,
+        )
     } else {
-        LineAnswer::Refused(asked)
+        LineAnswer::Refused(checked)
     }
 }
 
 // ---- the periods of a point and element
 
-// The first of the questions of the query for periods that says no. Linear in what is lent.
+// The first of the questions of the query for periods that says no: questions 7 and 8, where the book is well formed. Constant time.
+pub fn periods_number_within(
+    book: Book,
+    element_data: &[u8],
+    prices: &[i64],
+    links: &[u64],
+    holders: &[u64],
+    states: &[u64],
+    readings: &[u32],
+    blocks: &[u8],
+    lines: &[i64],
+    sent: &[i64],
+    point: u64,
+    element: u64,
+) -> Answer
+    requires { ⌜ Whole (worldOf book (now element_data) (now prices) (now links) (now holders) (now states) (now readings) (now blocks) (now lines) (now sent)) ⌝ }
+    ensures { λ r. ⌜ numberOf r ≡ periodsNumber (worldOf book (now (element_data .entry)) (now (prices .entry)) (now (links .entry)) (now (holders .entry)) (now (states .entry)) (now (readings .entry)) (now (blocks .entry)) (now (lines .entry)) (now (sent .entry))) point element ⌝ }
+{
+    first_no(ask_point(book, point), ask_element(book, element))
+}
+
+// The same of any book and any tables. Linear in what is lent.
 pub fn periods_number(
     book: Book,
     element_data: &[u8],
@@ -304,15 +335,29 @@ pub fn periods_number(
         lines,
         sent,
     );
-    first_no(
-        checked,
-        first_no(ask_point(book, point), ask_element(book, element)),
-    )
+    if number(checked) == 0 {
+        periods_number_within(
+            book,
+            element_data,
+            prices,
+            links,
+            holders,
+            states,
+            readings,
+            blocks,
+            lines,
+            sent,
+            point,
+            element,
+        )
+    } else {
+        checked
+    }
 }
 
-// Everything recorded for a point and an element, as that part of the link table; the empty part where the query is refused.
-// Linear in what is lent, for the questions of the book.
-pub fn periods<'a>(
+// Everything recorded for a point and an element of a book that is well formed, as that part of the link table; the empty part where
+// the query is refused. Logarithmic in the rows.
+pub fn periods_within<'a>(
     book: Book,
     element_data: &[u8],
     prices: &[i64],
@@ -326,9 +371,10 @@ pub fn periods<'a>(
     point: u64,
     element: u64,
 ) -> &'a [u64]
+    requires { ⌜ Whole (worldOf book (now element_data) (now prices) (now links) (now holders) (now states) (now readings) (now blocks) (now lines) (now sent)) ⌝ }
     ensures { λ r. ⌜ now r ≡ periodsQuery (worldOf book (now (element_data .entry)) (now (prices .entry)) (now (links .entry)) (now (holders .entry)) (now (states .entry)) (now (readings .entry)) (now (blocks .entry)) (now (lines .entry)) (now (sent .entry))) point element ⌝ }
 {
-    let asked = periods_number(
+    let asked = periods_number_within(
         book,
         element_data,
         prices,
@@ -345,6 +391,54 @@ pub fn periods<'a>(
     let used = book.periods as usize;
     if number(asked) == 0 {
         return pair_part(links, used, point, element);
+    }
+    &links[0..0]
+}
+
+// The same of any book and any tables. Linear in what is lent, for the questions of the book.
+pub fn periods<'a>(
+    book: Book,
+    element_data: &[u8],
+    prices: &[i64],
+    links: &'a [u64],
+    holders: &[u64],
+    states: &[u64],
+    readings: &[u32],
+    blocks: &[u8],
+    lines: &[i64],
+    sent: &[i64],
+    point: u64,
+    element: u64,
+) -> &'a [u64]
+    ensures { λ r. ⌜ now r ≡ periodsQuery (worldOf book (now (element_data .entry)) (now (prices .entry)) (now (links .entry)) (now (holders .entry)) (now (states .entry)) (now (readings .entry)) (now (blocks .entry)) (now (lines .entry)) (now (sent .entry))) point element ⌝ }
+{
+    let checked = check_book(
+        book,
+        element_data,
+        prices,
+        links,
+        holders,
+        states,
+        readings,
+        blocks,
+        lines,
+        sent,
+    );
+    if number(checked) == 0 {
+        return periods_within(
+            book,
+            element_data,
+            prices,
+            links,
+            holders,
+            states,
+            readings,
+            blocks,
+            lines,
+            sent,
+            point,
+            element,
+        );
     }
     &links[0..0]
 }
@@ -405,7 +499,7 @@ fn lacks_holder(
 // The first such day of the month. At most 31 days of 66 searches.
 fn find_day(book: Book, links: &[u64], holders: &[u64], states: &[u64], point: u64) -> DayAnswer
     requires { ⌜ PointAsked book (now links) (now holders) (now states) point ⌝ }
-    ensures { λ r. ⌜ ((ds : List ℕ) (ps : List ℤ) (rs bs : List ℕ) (ls ts : List ℤ) → dayNumber (worldOf book ds ps (now (links .entry)) (now (holders .entry)) (now (states .entry)) rs bs ls ts) point ≡ 0 → DayAnswered (worldOf book ds ps (now (links .entry)) (now (holders .entry)) (now (states .entry)) rs bs ls ts) point r) ⌝ }
+    ensures { λ r. ⌜ ((ds : List ℕ) (ps : List ℤ) (rs bs : List ℕ) (ls ts : List ℤ) → dayNumber (worldOf book ds ps (now (links .entry)) (now (holders .entry)) (now (states .entry)) rs bs ls ts) point ≡ 0 → DayTold (worldOf book ds ps (now (links .entry)) (now (holders .entry)) (now (states .entry)) rs bs ls ts) point r) ⌝ }
 {
     let end = first_day(book.year, book.month) + days_in_month(book.year, book.month);
     let mut day = first_day(book.year, book.month);
@@ -418,8 +512,9 @@ fn find_day(book: Book, links: &[u64], holders: &[u64], states: &[u64], point: u
     DayAnswer::NoDay
 }
 
-// The first of the questions of the query for a day that says no.
-fn day_number(
+// A day of the month on which the point of a book that is well formed counts but for a missing holder and has a link. At most 31 days
+// of 66 searches.
+pub fn day_without_holder_within(
     book: Book,
     element_data: &[u8],
     prices: &[i64],
@@ -431,26 +526,19 @@ fn day_number(
     lines: &[i64],
     sent: &[i64],
     point: u64,
-) -> Answer
-    ensures { λ r. ⌜ numberOf r ≡ dayNumber (worldOf book (now (element_data .entry)) (now (prices .entry)) (now (links .entry)) (now (holders .entry)) (now (states .entry)) (now (readings .entry)) (now (blocks .entry)) (now (lines .entry)) (now (sent .entry))) point ⌝ }
+) -> DayAnswer
+    requires { ⌜ Whole (worldOf book (now element_data) (now prices) (now links) (now holders) (now states) (now readings) (now blocks) (now lines) (now sent)) ⌝ }
+    ensures { λ r. ⌜ DayTold (worldOf book (now (element_data .entry)) (now (prices .entry)) (now (links .entry)) (now (holders .entry)) (now (states .entry)) (now (readings .entry)) (now (blocks .entry)) (now (lines .entry)) (now (sent .entry))) point r ⌝ }
 {
-    let checked = check_book(
-        book,
-        element_data,
-        prices,
-        links,
-        holders,
-        states,
-        readings,
-        blocks,
-        lines,
-        sent,
-    );
-    first_no(checked, ask_point(book, point))
+    let asked = ask_point(book, point);
+    if number(asked) == 0 {
+        find_day(book, links, holders, states, point)
+    } else {
+        DayAnswer::Refused(asked)
+    }
 }
 
-// A day of the month on which the point counts but for a missing holder and has a link. Linear in what is lent, for the questions
-// of the book.
+// The same of any book and any tables. Linear in what is lent, for the questions of the book.
 pub fn day_without_holder(
     book: Book,
     element_data: &[u8],
@@ -464,9 +552,9 @@ pub fn day_without_holder(
     sent: &[i64],
     point: u64,
 ) -> DayAnswer
-    ensures { λ r. ⌜ DayAnswered (worldOf book (now (element_data .entry)) (now (prices .entry)) (now (links .entry)) (now (holders .entry)) (now (states .entry)) (now (readings .entry)) (now (blocks .entry)) (now (lines .entry)) (now (sent .entry))) point r ⌝ }
+    ensures { λ r. ⌜ DayTold (worldOf book (now (element_data .entry)) (now (prices .entry)) (now (links .entry)) (now (holders .entry)) (now (states .entry)) (now (readings .entry)) (now (blocks .entry)) (now (lines .entry)) (now (sent .entry))) point r ⌝ }
 {
-    let asked = day_number(
+    let checked = check_book(
         book,
         element_data,
         prices,
@@ -477,11 +565,22 @@ pub fn day_without_holder(
         blocks,
         lines,
         sent,
-        point,
     );
-    if number(asked) == 0 {
-        find_day(book, links, holders, states, point)
+    if number(checked) == 0 {
+        day_without_holder_within(
+            book,
+            element_data,
+            prices,
+            links,
+            holders,
+            states,
+            readings,
+            blocks,
+            lines,
+            sent,
+            point,
+        )
     } else {
-        DayAnswer::Refused(asked)
+        DayAnswer::Refused(checked)
     }
 }

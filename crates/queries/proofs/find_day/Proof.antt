@@ -4,6 +4,7 @@ use mathlib.Core.Path.{sym, _∙_}
 use Rattle.calendar.specs.MonthLaws.{month-within}
 use Rattle.rules.proofs.Tests.{is-T}
 use Rattle.queries.proofs.Lacks.{Searched, searched-more, searched-all}
+use borrow.Author.Tests.{eq-eqb}
 use native.Mathlib.Omega.{arith}
 use borrow.Author.Needs.{needs}
 use Rattle.queries.proofs.find_day.Statement.{statement}
@@ -47,7 +48,11 @@ lacks-holder-requires c κs =
     (s .pre, record { from = v .from; upto = omega arith; within = omega arith })
 
 returns : tie.Need-returns Inv-loop μ-loop
-returns c ds ps rs bs ls ts h = record { number = h; lacks = is-T _ (sym (c .before .lacks-holder .ensures ds ps rs bs) ∙ c .if1 .taken) }
+returns c ds ps rs bs ls ts h =
+    record {
+      told = sym (eq-eqb _ _ h);
+      holds = record { number = h; lacks = is-T _ (sym (c .before .lacks-holder .ensures ds ps rs bs) ∙ c .if1 .taken) };
+    }
 
 add-day : tie.Need-add-day Inv-loop μ-loop
 add-day c =
@@ -72,9 +77,12 @@ returns-2 c ds ps rs bs ls ts h =
     let a = c .before .before .before .before .before .before .before .before .args in
     let l = c .before .loop in
     record {
-      number = h;
-      none = searched-all (a .book) (a .links .now) (a .holders .now) (a .states .now) (a .point) _ (l .day) (l .inv)
-          (omega arith) ds ps rs bs;
+      told = sym (eq-eqb _ _ h);
+      holds = record {
+        number = h;
+        none = searched-all (a .book) (a .links .now) (a .holders .now) (a .states .now) (a .point) _ (l .day) (l .inv)
+            (omega arith) ds ps rs bs;
+      };
     }
 
 pub find-day-spec : {M : Type 1} → statement M

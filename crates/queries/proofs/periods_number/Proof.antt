@@ -1,7 +1,10 @@
--- `queries::periods_number` meets its contract: the questions of the book, then questions 7 and 8.
-use mathlib.Core.Path.{_∙_}
+-- `queries::periods_number` meets its contract: the questions of the book, then those of a well-formed one.
+use mathlib.Core.Path.{sym, _∙_}
+use mathlib.Core.Logic.{_≢_}
 use Rattle.rules.specs.World.{World, worldOf}
-use Rattle.queries.proofs.Asks.{periods-asks}
+use Rattle.rules.specs.Effects.{askBook}
+use Rattle.book.proofs.Passes.{book-whole}
+use Rattle.queries.proofs.Asks.{periods-stands}
 use borrow.Author.Needs.{needs}
 use Rattle.queries.proofs.periods_number.Statement.{statement}
 use Rattle.queries.proofs.periods_number.Tie as tie
@@ -14,30 +17,24 @@ world s = worldOf (s .args .book) (s .args .element-data .now) (s .args .prices 
 check-book-requires : tie.Need-check-book-requires
 check-book-requires c κs = search needs
 
-ask-point-requires : tie.Need-ask-point-requires
-ask-point-requires c κs = search needs
+number-requires : tie.Need-number-requires
+number-requires c κs = search needs
 
-ask-element-requires : tie.Need-ask-element-requires
-ask-element-requires c κs = search needs
-
-first-no-requires : tie.Need-first-no-requires
-first-no-requires c κs = search needs
-
-first-no-requires-2 : tie.Need-first-no-requires-2
-first-no-requires-2 c κs = search needs
+periods-number-within-requires : tie.Need-periods-number-within-requires
+periods-number-within-requires c κs = let s = c .before .before .before .before .before .before .before .before .before in
+    book-whole (world s) (sym (c .before .before .check-book .ensures) ∙ sym (c .before .number .ensures) ∙ c .if1 .taken)
 
 returns : tie.Need-returns
-returns c = let s = c .before .before .before .before .before .before .before .before .before .before .before in
-    c .first-no2 .ensures ∙ rw (c .before .before .before .before .check-book .ensures, c .before .first-no .ensures, c .before .before .before .ask-point .ensures, c .before .before .ask-element .ensures)
-    (periods-asks (world s) (s .args .point) (s .args .element))
+returns c = search needs
+
+returns-2 : tie.Need-returns-2
+returns-2 c =
+    let s = c .before .before .before .before .before .before .before .before .before in
+    let e = c .before .before .check-book .ensures in
+    let n : askBook (world s) 0 ≢ 0 = λ z. c .if1 .left (c .before .number .ensures ∙ e ∙ z) in
+    e ∙ periods-stands (world s) n (s .args .point) (s .args .element)
 
 pub periods-number-spec : {M : Type 1} → statement M
 periods-number-spec =
     tie.close
-    (tie.spec
-    check-book-requires
-    ask-point-requires
-    ask-element-requires
-    first-no-requires
-    first-no-requires-2
-    returns)
+    (tie.spec check-book-requires number-requires periods-number-within-requires returns returns-2)
