@@ -1,0 +1,162 @@
+-- The answers of the inner functions, said in numbers.
+use Prim.Native.Nat.{ℕ, _+_, _≤_, _<_}
+use native.Mathlib.Omega.{arith}
+use mathlib.Core.Path.{_≡_, refl, sym, ap, _∙_}
+use mathlib.Core.Logic.{_≢_}
+use mathlib.Core.Bool.{Bool, true, false, _&&_}
+use mathlib.Core.List.{List}
+use mathlib.Core.Option.{Option, none, some}
+use lib.Dec.{T, eqb, leb, ltb, ltb→lt}
+use lib.IntN.{ℤ}
+use lib.ListN.{length, take, length-take}
+use borrow.Author.Tests.{eq-eqb, ne-eqb, eqb-true, eqb-false, ltb-true}
+use Rattle.calendar.specs.MonthLaws.{month-within}
+use Rattle.rules.specs.declared.Answer.{Answer}
+use Rattle.rules.specs.declared.Book.{Book}
+use Rattle.rules.specs.declared.Fields.{Fields}
+use Rattle.rules.specs.declared.LineAnswer.{LineAnswer}
+use Rattle.rules.specs.declared.DayAnswer.{DayAnswer}
+use Rattle.rules.specs.declared.Opened.{Opened}
+use Rattle.rules.specs.Lines.{Measure}
+use Rattle.rules.specs.Basics.{when}
+use Rattle.rules.specs.World.{World, Opening, Tables, bookOf, monthFirst, monthDays, stored, rowsOf}
+use Rattle.rules.specs.Questions.{question16}
+use Rattle.rules.specs.Opening.{openingAnswer, opened, afterOpening}
+use Rattle.rules.specs.Queries.{LineResult, lineNumber, lineQuery, lineNamed, lineRefused, periodsNumber, periodsQuery, dayNumber, lacksHolder}
+use Rattle.rules.specs.Answers.{numberOf, lineResult}
+use Rattle.rules.proofs.Tests.{cases}
+use Rattle.rules.proofs.Parts.{Whole}
+use Rattle.rules.proofs.Stored.{billionths-lt}
+use Rattle.rules.proofs.LineQuery.{query-stored}
+use Rattle.rules.proofs.Begin.{passed, begin-whole}
+use Rattle.book.proofs.Passes.{measured}
+use Rattle.queries.specs.Promises.{OpenedAs, LineAnswered, DayTold}
+use Rattle.queries.proofs.Opens.{began}
+use Rattle.queries.proofs.Asks.{line-passed, day-passed}
+use Rattle.settlement.specs.declared.Reply.{Reply}
+use Rattle.settlement.specs.Replies.{Replied}
+use Rattle.settlement_book.specs.Numbers.{numbersIn, lineNumbers, lineAfter, InKrone, noDay, dayAfter, dayAnswerNumber}
+use Rattle.settlement_book.specs.Promises.{OpensIn, RepliesIn, LineIn, DayIn}
+use Rattle.settlement_book.proofs.Lists.{pair-length}
+
+left : (a b : Bool) → T (a && b) → T a
+left true b h = tt
+left false b h = absurd h
+
+right : (a b : Bool) → T (a && b) → T b
+right true b h = h
+right false b h = absurd h
+
+-- a test that is false of a number that is 0
+not-zero : (n : ℕ) → false ≡ eqb n 0 → n ≢ 0
+not-zero n h k = let z : _≡_ {A = Bool} false true = h ∙ eq-eqb n 0 k in absurd (let x : _≡_ {A = ℕ} 0 1 = cc in omega arith)
+
+-- ---- the line query
+
+module _ (w : World) (s e : ℕ) where
+  -- the billionths of a well-formed book's line are less than a krone
+  pub line-small : (r : LineAnswer) → LineAnswered w s e r → InKrone r
+  unfolding lineNamed
+  line-small (LineAnswer.Line q k b) h =
+      let p = line-passed w s e (eqb-true _ _ (sym (h .told))) in
+      let f : b ≡ lineNamed (stored (w .opening) (w .position .lines) Measure.quantity s e) (stored (w .opening) (w .position .lines) Measure.amount s e) .billionths =
+          ap (λ (x : LineResult). x .billionths) (h .stored ∙ query-stored w (p .0) s e (p .1)) in
+      rw f (billionths-lt _)
+  line-small (LineAnswer.Refused a) h = omega arith
+
+  refused-number : (a : Answer) → LineAnswered w s e (LineAnswer.Refused a) → numberOf a ≡ lineNumber w s e
+  unfolding lineQuery lineRefused
+  refused-number a h =
+      let k : lineRefused (numberOf a) ≡ lineRefused (lineNumber w s e) = h .stored ∙ rw (sym (h .told)) in
+      ap (λ (x : LineResult). x .number) k
+
+  pub line-in-numbers : (r : LineAnswer) → LineAnswered w s e r → (n : ℕ) → n ≡ lineResult r .number → (lent out : List ℤ) → out ≡ lineAfter r lent
+      → LineIn w s e n lent out
+  unfolding lineNumbers lineNamed lineRefused
+  line-in-numbers (LineAnswer.Line q k b) h n i lent out j =
+      record {
+        number = i ∙ sym (eqb-true _ _ (sym (h .told)));
+        numbers = rw (← h .told, ← h .stored) j;
+        settled = λ w₀ vs x y z. j ∙ ap lineNumbers (h .settled w₀ vs x y z);
+      }
+  line-in-numbers (LineAnswer.Refused a) h n i lent out j =
+      record {
+        number = i ∙ refused-number a h;
+        numbers = rw (← h .told) j;
+        settled = λ w₀ vs x y z. absurd (not-zero _ (h .told) (sym (refused-number a h) ∙ ap (λ (x : LineResult). x .number) (h .settled w₀ vs x y z)));
+      }
+
+-- ---- the periods
+
+pub periods-length : (w : World) (p e : ℕ) → length (periodsQuery w p e) ≤ length (w .position .tables .links .words)
+unfolding periodsQuery rowsOf
+periods-length w p e =
+    let t = w .position .tables .links in
+    let h = pair-length p e (take (t .used) (t .words)) in
+    let k = length-take (t .used) (t .words) in
+    cases (eqb (periodsNumber w p e) 0) (λ x. rw x (omega arith)) (λ x. rw x (omega arith))
+
+-- ---- a day without a holder
+
+-- a day that the query names is one of the month
+day-in-month : (o : Opening) (t : Tables) (p d : ℕ) → T (lacksHolder o t p d) → d < monthFirst o + monthDays o
+unfolding lacksHolder question16
+day-in-month o t p d h = ltb→lt _ _ (right (leb (monthFirst o) d) (ltb d (monthFirst o + monthDays o)) (left (question16 o d) _ h))
+
+pub day-in-numbers : (w : World) (p : ℕ) (r : DayAnswer) → DayTold w p r → (n : ℕ) → n ≡ dayAnswerNumber r → (lent out : ℕ) → out ≡ dayAfter r lent
+    → DayIn w p n lent out
+unfolding monthFirst monthDays
+day-in-numbers w p (DayAnswer.Day d) h n i lent out j =
+    let z : dayNumber w p ≡ 0 = eqb-true _ _ (sym (h .told)) in
+    record {
+      number = i ∙ sym z;
+      refused = λ k. absurd (k i);
+      named = λ k l. rw j (h .holds);
+      none = λ k l. let f = day-passed w p z .0 in
+          let m = measured w (f .limited) (f .sized) .limits .month in
+          let a = month-within (w .opening .year) (w .opening .month) m in
+          let b = day-in-month (w .opening) (w .position .tables) p d (h .holds .lacks) in
+          absurd (omega arith);
+    }
+day-in-numbers w p DayAnswer.NoDay h n i lent out j =
+    record {
+      number = i ∙ sym (eqb-true _ _ (sym (h .told)));
+      refused = λ k. absurd (k i);
+      named = λ k l. absurd (omega arith);
+      none = λ k l. (j, h .holds);
+    }
+day-in-numbers w p (DayAnswer.Refused a) h n i lent out j =
+    let z = i ∙ h .holds in
+    record {
+      number = z;
+      refused = λ k. j;
+      named = λ k. absurd (not-zero _ (h .told) (sym z ∙ k));
+      none = λ k. absurd (not-zero _ (h .told) (sym z ∙ k));
+    }
+
+-- ---- an opening
+
+-- one that is accepted leaves a well-formed book
+pub opened-whole : (w after : World) → after ≡ afterOpening w → openingAnswer w ≡ 0 → Whole after
+unfolding afterOpening
+opened-whole w after h k = rw (h, k) (begin-whole w (passed w k))
+
+pub opens-in : (w after : World) (b : Book) (lent out : List ℕ) → OpenedAs w after (Opened.Book b) → out ≡ numbersIn b → OpensIn w after lent out 0
+opens-in w after b lent out h e =
+    let k = began w after b h in
+    record { number = sym (k .passed); book = rw (k .passed) (e ∙ ap numbersIn (k .book)); world = h .world }
+
+-- one that is refused has a question that says no
+pub refused-no : (w after : World) (a : Answer) → OpenedAs w after (Opened.Refused a) → openingAnswer w ≢ 0
+unfolding when
+refused-no w after a h z = let k : _≡_ {A = Option Book} none (some (bookOf w)) = rw z at (h .book) in absurd (let x : _≡_ {A = ℕ} 0 1 = cc in omega arith)
+
+pub stays-in : (w after : World) (a : Answer) (lent : List ℕ) → OpenedAs w after (Opened.Refused a) → (r : ℕ) → r ≡ numberOf a → OpensIn w after lent lent r
+stays-in w after a lent h r e =
+    record { number = e ∙ h .number; book = rw (ne-eqb _ _ (refused-no w after a h)); world = h .world }
+
+-- ---- a message
+
+pub replies-in : (w after : World) (f : Fields) (r : Reply) (lent out : List ℤ) → Replied w after f r lent out → (n : ℕ) → n ≡ numberOf (r .answer)
+    → RepliesIn w after f n (r .records) lent out
+replies-in w after f r lent out h n e = record { number = e ∙ h .number; world = h .world; list = h .list; count = h .count }

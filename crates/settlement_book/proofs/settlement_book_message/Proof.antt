@@ -1,0 +1,71 @@
+-- The reply, said in numbers: the book that it names is put in the place of the lent one.
+use Rattle.settlement_book.proofs.Answers.{replies-in}
+use borrow.Author.Needs.{needs}
+use Rattle.settlement_book.proofs.settlement_book_message.Statement.{statement}
+use Rattle.settlement_book.proofs.settlement_book_message.Tie as tie
+
+book-of-requires : tie.Need-book-of-requires
+book-of-requires c κs = search needs
+
+fields-of-requires : tie.Need-fields-of-requires
+fields-of-requires c κs = search needs
+
+message-requires : tie.Need-message-requires
+message-requires c κs = search needs
+
+put-book-requires : tie.Need-put-book-requires
+put-book-requires c κs = c .before .before .before .before .before .before .before .before .before .before .before .before .before .before .before .before .before .before .before .before .before .before .before .before .before .before .before .before .before .before .before .before .before .before .before .pre .0
+
+number-requires : tie.Need-number-requires
+number-requires c κs = search needs
+
+same-length : tie.Need-same-length
+same-length c = search needs
+
+same-length-2 : tie.Need-same-length-2
+same-length-2 c = search needs
+
+same-length-3 : tie.Need-same-length-3
+same-length-3 c = search needs
+
+same-length-4 : tie.Need-same-length-4
+same-length-4 c = search needs
+
+same-length-5 : tie.Need-same-length-5
+same-length-5 c = search needs
+
+same-length-6 : tie.Need-same-length-6
+same-length-6 c = search needs
+
+same-length-7 : tie.Need-same-length-7
+same-length-7 c = search needs
+
+same-length-8 : tie.Need-same-length-8
+same-length-8 c = search needs
+
+same-length-9 : tie.Need-same-length-9
+same-length-9 c = search needs
+
+returns : tie.Need-returns
+returns c = rw (c .before .before .before .put-book .ensures)
+    (replies-in _ _ _ _ _ _ (rw (c .before .before .before .before .before .before .before .before .before .before .before .before .before .before .before .before .before .before .before .before .before .before .before .before .before .before .before .before .before .book-of .ensures, c .before .before .before .before .before .before .before .before .before .before .before .before .before .before .before .before .before .before .before .before .fields-of .ensures) at (c .before .before .before .before .before .before .before .before .before .before .before .before .before .before .before .before .before .before .before .message .ensures)) _ (c .number .ensures))
+
+pub settlement-book-message-spec : {M : Type 1} → statement M
+settlement-book-message-spec =
+    tie.close
+    (tie.spec
+    book-of-requires
+    fields-of-requires
+    message-requires
+    put-book-requires
+    number-requires
+    same-length
+    same-length-2
+    same-length-3
+    same-length-4
+    same-length-5
+    same-length-6
+    same-length-7
+    same-length-8
+    same-length-9
+    returns)

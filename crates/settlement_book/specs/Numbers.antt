@@ -1,0 +1,85 @@
+-- A book, a message and the answers as the numbers that the exported functions take and give.
+use Prim.Native.Nat.{ℕ, _<_}
+use mathlib.Core.List.{List, [], _∷_, _++_}
+use lib.IntN.{ℤ, pos}
+use lib.ListN.{length, getD, drop}
+use Rattle.rules.specs.declared.Book.{Book}
+use Rattle.rules.specs.declared.Fields.{Fields}
+use Rattle.rules.specs.declared.LineAnswer.{LineAnswer}
+use Rattle.rules.specs.declared.DayAnswer.{DayAnswer}
+use Rattle.rules.specs.Queries.{LineResult}
+use Rattle.rules.specs.Answers.{numberOf}
+use Rattle.queries.specs.Promises.{freshBook}
+
+-- ---- a book and a message: nine numbers each, in the order of their fields
+
+abbrev pub bookIn : List ℕ → Book
+bookIn ns =
+    record {
+      year = getD ns 0 0;
+      month = getD ns 1 0;
+      points = getD ns 2 0;
+      suppliers = getD ns 3 0;
+      elements = getD ns 4 0;
+      periods = getD ns 5 0;
+      holders = getD ns 6 0;
+      states = getD ns 7 0;
+      round = getD ns 8 0;
+    }
+
+abbrev pub numbersIn : Book → List ℕ
+numbersIn b = b .year ∷ b .month ∷ b .points ∷ b .suppliers ∷ b .elements ∷ b .periods ∷ b .holders ∷ b .states ∷ b .round ∷ []
+
+-- the book that an opening gives: the first five numbers are taken
+abbrev pub freshIn : List ℕ → Book
+freshIn ns = freshBook (getD ns 0 0) (getD ns 1 0) (getD ns 2 0) (getD ns 3 0) (getD ns 4 0)
+
+abbrev pub fieldsIn : List ℕ → Fields
+fieldsIn ns =
+    record {
+      kind = getD ns 0 0;
+      role = getD ns 1 0;
+      sender = getD ns 2 0;
+      received = getD ns 3 0;
+      point = getD ns 4 0;
+      element = getD ns 5 0;
+      day = getD ns 6 0;
+      hour = getD ns 7 0;
+      value = getD ns 8 0;
+    }
+
+-- ---- a line: quantity, kroner and billionths
+
+unfoldable pub lineNumbers : LineResult → List ℤ
+lineNumbers r = r .quantity ∷ r .kroner ∷ pos (r .billionths) ∷ []
+
+-- a lent line afterwards: a refusal leaves it
+abbrev pub lineAfter : LineAnswer → List ℤ → List ℤ
+lineAfter (LineAnswer.Line quantity kroner billionths) lent = quantity ∷ kroner ∷ pos billionths ∷ []
+lineAfter (LineAnswer.Refused a) lent = lent
+
+-- the billionths of an answer are less than a krone
+abbrev pub InKrone : LineAnswer → Type 0
+InKrone (LineAnswer.Line quantity kroner billionths) = billionths < 1000000000
+InKrone (LineAnswer.Refused a) = 0 < 1000000000
+
+-- ---- rows at the front of a lent list; those past the last one written stay as lent
+
+abbrev pub frontOf : List ℕ → List ℕ → List ℕ
+frontOf rows lent = rows ++ drop (length rows) lent
+
+-- ---- a day: 36,525, which stands behind the last day, for none
+
+abbrev pub noDay : ℕ
+noDay = 36525
+
+-- a lent day afterwards: a refusal leaves it
+abbrev pub dayAfter : DayAnswer → ℕ → ℕ
+dayAfter (DayAnswer.Day d) lent = d
+dayAfter DayAnswer.NoDay lent = noDay
+dayAfter (DayAnswer.Refused a) lent = lent
+
+abbrev pub dayAnswerNumber : DayAnswer → ℕ
+dayAnswerNumber (DayAnswer.Day d) = 0
+dayAnswerNumber DayAnswer.NoDay = 0
+dayAnswerNumber (DayAnswer.Refused a) = numberOf a

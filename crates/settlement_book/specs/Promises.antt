@@ -1,0 +1,54 @@
+-- What each exported function promises of the numbers that it gives: equations with the rules' definitions.
+use Prim.Native.Nat.{ℕ, _≤_, _<_}
+use mathlib.Core.Path.{_≡_}
+use mathlib.Core.Logic.{_≢_}
+use mathlib.Core.Bool.{cond}
+use mathlib.Core.List.{List}
+use lib.IntN.{ℤ}
+use lib.ListN.{length}
+use lib.Dec.{eqb}
+use Rattle.rules.specs.declared.Fields.{Fields}
+use Rattle.rules.specs.Lines.{Measure, line}
+use Rattle.rules.specs.World.{World, bookOf, termsOf, InBook}
+use Rattle.rules.specs.Opening.{openingAnswer, afterOpening}
+use Rattle.rules.specs.Effects.{answer, step, recordsOf}
+use Rattle.rules.specs.Queries.{lineNumber, lineQuery, lineNamed, periodsNumber, periodsQuery, dayNumber, DayNamed, NoDayNamed}
+use Rattle.rules.specs.Fresh.{freshFacts}
+use Rattle.rules.specs.Claim.{Event, reached}
+use Rattle.rounds.specs.RecordNumbers.{numbersAfter}
+use Rattle.settlement.specs.Replies.{roomIn}
+use Rattle.settlement_book.specs.Numbers.{numbersIn, lineNumbers, frontOf, noDay}
+
+-- an opening of the world w that leaves the world after, and of the book's numbers
+pub record OpensIn (w after : World) (lent out : List ℕ) (r : ℕ) : Type 0 where
+  pub number : r ≡ openingAnswer w
+  pub book : out ≡ cond (eqb (openingAnswer w) 0) (numbersIn (bookOf w)) lent
+  pub world : after ≡ afterOpening w
+
+-- a message: the answer, everything lent, the records at the front of the list, and how many there are
+pub record RepliesIn (w after : World) (f : Fields) (r n : ℕ) (lent out : List ℤ) : Type 0 where
+  pub number : r ≡ answer w f (roomIn lent)
+  pub world : after ≡ step w f (roomIn lent)
+  pub list : out ≡ numbersAfter (recordsOf w f (roomIn lent)) lent
+  pub count : n ≡ length (recordsOf w f (roomIn lent))
+
+-- the line query; for a book reached from an opening the line's numbers are the rules' sums
+pub record LineIn (w : World) (s e : ℕ) (r : ℕ) (lent out : List ℤ) : Type 0 where
+  pub number : r ≡ lineNumber w s e
+  pub numbers : out ≡ cond (eqb (lineNumber w s e) 0) (lineNumbers (lineQuery w s e)) lent
+  pub settled : (w₀ : World) (vs : List Event) → openingAnswer w₀ ≡ 0 → w ≡ reached w₀ vs .world → InBook (w₀ .opening) s e
+      → out ≡ lineNumbers (lineNamed (line (termsOf (w₀ .opening)) (freshFacts (reached w₀ vs .fresh)) Measure.quantity s e)
+      (line (termsOf (w₀ .opening)) (freshFacts (reached w₀ vs .fresh)) Measure.amount s e))
+
+-- the periods of a point and element: the rows at the front of the list, and how many there are
+pub record PeriodsIn (w : World) (p e : ℕ) (r n : ℕ) (lent out : List ℕ) : Type 0 where
+  pub number : r ≡ periodsNumber w p e
+  pub count : n ≡ length (periodsQuery w p e)
+  pub rows : out ≡ frontOf (periodsQuery w p e) lent
+
+-- the query for a day without a holder
+pub record DayIn (w : World) (p : ℕ) (r lent out : ℕ) : Type 0 where
+  pub number : r ≡ dayNumber w p
+  pub refused : r ≢ 0 → out ≡ lent
+  pub named : r ≡ 0 → out < noDay → DayNamed w p out
+  pub none : r ≡ 0 → noDay ≤ out → (out ≡ noDay) × NoDayNamed w p
