@@ -1,0 +1,357 @@
+//! The book, and the calls of the exported functions: the one module with `unsafe`.
+//!
+//! Each exported function asks that its slices have the lengths named below and,
+//! where its name ends in `_within`, that the book is well formed (`Whole` in
+//! `crates/rules/proofs/Parts.antt`). Both hold of every [`Book`]:
+//!
+//! - A `Book` comes from [`Book::open`] alone, or is a clone of one. It is made where
+//!   `settlement_book_open` answers 0, whose promise says that the nine numbers and
+//!   the tables are then well formed.
+//! - Nothing writes them but the two message functions. `settlement_book_message_within`
+//!   promises that the book stays well formed. `settlement_book_message` promises the
+//!   same step of the same book (`RepliesIn` in `crates/settlement_book`).
+//! - The fields are private to this module, which hands out no `&mut` to them and
+//!   never changes their lengths: nine numbers, links and rows 1,024 words each, and
+//!   the other tables as the opening has accepted them.
+//! - All tables are their own allocations, so no two slices overlap, and `&mut self`
+//!   or `&self` holds them for the time of the call. Every number is an integer of
+//!   the same width on both sides, and no pointer is kept.
+
+use crate::calendar::days_in_month;
+use crate::{Counts, Element, Fields, Line, Month, Period, Question, Record};
+
+/// Places for periods, for holders and for states.
+const PLACES: usize = 1024;
+/// What stands for no day: the number behind the last day.
+const NO_DAY: u64 = 36_525;
+
+/// Declares exported functions that are lent the tables, with what follows those.
+/// A slice is a pointer and a length.
+macro_rules! exported {
+    ($own:tt: $($name:ident($($more:ident: $type:ty),*);)*) => {
+        unsafe extern "C" {
+            $(fn $name(
+                book: *$own u64, book_length: usize,
+                element_data: *const u8, element_data_length: usize,
+                prices: *const i64, prices_length: usize,
+                links: *$own u64, links_length: usize,
+                holders: *$own u64, holders_length: usize,
+                states: *$own u64, states_length: usize,
+                readings: *$own u32, readings_length: usize,
+                blocks: *$own u8, blocks_length: usize,
+                lines: *$own i64, lines_length: usize,
+                sent: *$own i64, sent_length: usize,
+                $($more: $type),*
+            ) -> u64;)*
+        }
+    };
+}
+
+exported! { mut:
+    settlement_book_open();
+    settlement_book_message(
+        records: *mut i64, records_length: usize,
+        fields: *const u64, fields_length: usize,
+        count: *mut u64
+    );
+    settlement_book_message_within(
+        records: *mut i64, records_length: usize,
+        fields: *const u64, fields_length: usize,
+        count: *mut u64
+    );
+}
+
+exported! { const:
+    settlement_book_line(supplier: u64, element: u64, line: *mut i64, line_length: usize);
+    settlement_book_line_within(supplier: u64, element: u64, line: *mut i64, line_length: usize);
+    settlement_book_periods(
+        point: u64, element: u64,
+        rows: *mut u64, rows_length: usize,
+        count: *mut u64
+    );
+    settlement_book_periods_within(
+        point: u64, element: u64,
+        rows: *mut u64, rows_length: usize,
+        count: *mut u64
+    );
+    settlement_book_day_without_holder(point: u64, day: *mut u64);
+    settlement_book_day_without_holder_within(point: u64, day: *mut u64);
+}
+
+/// Calls an exported function with a book's tables, for writing.
+macro_rules! write_with {
+    ($book:ident, $function:ident($($more:expr),*)) => {
+        $function(
+            $book.numbers.as_mut_ptr(), $book.numbers.len(),
+            $book.element_data.as_ptr(), $book.element_data.len(),
+            $book.prices.as_ptr(), $book.prices.len(),
+            $book.links.as_mut_ptr(), $book.links.len(),
+            $book.holders.as_mut_ptr(), $book.holders.len(),
+            $book.states.as_mut_ptr(), $book.states.len(),
+            $book.readings.as_mut_ptr(), $book.readings.len(),
+            $book.blocks.as_mut_ptr(), $book.blocks.len(),
+            $book.lines.as_mut_ptr(), $book.lines.len(),
+            $book.sent.as_mut_ptr(), $book.sent.len(),
+            $($more),*
+        )
+    };
+}
+
+/// Calls an exported function with a book's tables, for reading.
+macro_rules! read_with {
+    ($book:ident, $function:ident($($more:expr),*)) => {
+        $function(
+            $book.numbers.as_ptr(), $book.numbers.len(),
+            $book.element_data.as_ptr(), $book.element_data.len(),
+            $book.prices.as_ptr(), $book.prices.len(),
+            $book.links.as_ptr(), $book.links.len(),
+            $book.holders.as_ptr(), $book.holders.len(),
+            $book.states.as_ptr(), $book.states.len(),
+            $book.readings.as_ptr(), $book.readings.len(),
+            $book.blocks.as_ptr(), $book.blocks.len(),
+            $book.lines.as_ptr(), $book.lines.len(),
+            $book.sent.as_ptr(), $book.sent.len(),
+            $($more),*
+        )
+    };
+}
+
+/// One grid company's month, with everything that it is lent. It is well formed at
+/// all times.
+#[derive(Clone)]
+pub struct Book {
+    /// Year, month, points, suppliers, elements; periods, holders and states in
+    /// use; the kind of the next round.
+    numbers: [u64; 9],
+    element_data: Box<[u8]>,
+    prices: Box<[i64]>,
+    links: Box<[u64]>,
+    holders: Box<[u64]>,
+    states: Box<[u64]>,
+    readings: Box<[u32]>,
+    blocks: Box<[u8]>,
+    lines: Box<[i64]>,
+    sent: Box<[i64]>,
+    /// One place for each line, so a round always fits.
+    records: Box<[Record]>,
+    /// The answer to a query for periods.
+    rows: Box<[u64]>,
+}
+
+fn zeros<T: Clone + Default>(count: u64) -> Box<[T]> {
+    vec![T::default(); count as usize].into_boxed_slice()
+}
+
+impl Book {
+    /// Opens a month with 24 prices for each element, or names the first of questions
+    /// 2 to 4 that says no.
+    pub fn open(
+        month: Month,
+        counts: Counts,
+        elements: &[Element],
+        prices: &[i64],
+    ) -> Result<Book, Question> {
+        // Tables at their exact lengths. Counts past their limits are question 2, which
+        // comes before the tables are looked at, so those need no room.
+        let points = counts.points.min(256);
+        let places = counts.suppliers.min(16) * counts.elements.min(64);
+        let days = days_in_month(month.year, month.month);
+        let element_data = elements.iter().flat_map(|e| [e.kind, e.owner, e.marks]);
+        let mut book = Book {
+            numbers: [
+                month.year,
+                month.month,
+                counts.points,
+                counts.suppliers,
+                counts.elements,
+                0,
+                0,
+                0,
+                0,
+            ],
+            element_data: element_data.collect(),
+            prices: prices.into(),
+            links: zeros(PLACES as u64),
+            holders: zeros(PLACES as u64),
+            states: zeros(PLACES as u64),
+            readings: zeros(points * days * 24),
+            blocks: zeros(points),
+            lines: zeros(places * 3),
+            sent: zeros(places * 3),
+            records: zeros(places),
+            rows: zeros(PLACES as u64),
+        };
+        // Safety: the function asks only that there are nine numbers.
+        let answer = unsafe { write_with!(book, settlement_book_open()) };
+        Question::none_of(answer).map(|()| book)
+    }
+
+    /// Takes a message: the records of a round, none for any other kind, or the first
+    /// of questions 6 to 17 that says no; then nothing has changed.
+    #[inline]
+    pub fn message(&mut self, fields: &Fields) -> Result<&[Record], Question> {
+        self.message_by(fields, false)
+    }
+
+    /// The same through the exported function that asks questions 2 to 5 of the whole
+    /// book first. They never say no, so the answer is the same; it takes longer.
+    pub fn message_checked(&mut self, fields: &Fields) -> Result<&[Record], Question> {
+        self.message_by(fields, true)
+    }
+
+    #[inline]
+    fn message_by(&mut self, fields: &Fields, checked: bool) -> Result<&[Record], Question> {
+        let fields = [
+            fields.kind,
+            fields.role,
+            fields.sender,
+            fields.received,
+            fields.point,
+            fields.element,
+            fields.day,
+            fields.hour,
+            fields.value,
+        ];
+        let mut count = 0;
+        // A record is six numbers of 64 bits, each of which may be anything.
+        let (records, length) = (self.records.as_mut_ptr().cast(), self.records.len() * 6);
+        // Safety: nine numbers and nine fields. The book is well formed, as the head of
+        // this module says.
+        let answer = unsafe {
+            if checked {
+                write_with!(
+                    self,
+                    settlement_book_message(records, length, fields.as_ptr(), 9, &mut count)
+                )
+            } else {
+                write_with!(
+                    self,
+                    settlement_book_message_within(records, length, fields.as_ptr(), 9, &mut count)
+                )
+            }
+        };
+        Question::none_of(answer).map(|()| &self.records[..count as usize])
+    }
+
+    /// What a supplier owes for an element, or question 6 or 8.
+    #[inline]
+    pub fn line(&self, supplier: u64, element: u64) -> Result<Line, Question> {
+        let mut line = [0; 3];
+        // Safety: nine numbers, a line of three, and the book is well formed.
+        let answer = unsafe {
+            read_with!(
+                self,
+                settlement_book_line_within(supplier, element, line.as_mut_ptr(), 3)
+            )
+        };
+        Question::none_of(answer).map(|()| line_of(line))
+    }
+
+    /// The same through the exported function that asks questions 2 to 5 first.
+    pub fn line_checked(&self, supplier: u64, element: u64) -> Result<Line, Question> {
+        let mut line = [0; 3];
+        // Safety: nine numbers and a line of three.
+        let answer = unsafe {
+            read_with!(
+                self,
+                settlement_book_line(supplier, element, line.as_mut_ptr(), 3)
+            )
+        };
+        Question::none_of(answer).map(|()| line_of(line))
+    }
+
+    /// Everything recorded for a point and an element, by first day, or question 7 or
+    /// 8. The rows are copied into a list that the book owns.
+    #[inline]
+    pub fn periods(
+        &mut self,
+        point: u64,
+        element: u64,
+    ) -> Result<impl ExactSizeIterator<Item = Period> + '_, Question> {
+        let mut count = 0;
+        let (rows, length) = (self.rows.as_mut_ptr(), self.rows.len());
+        // Safety: nine numbers, as many rows as there are links, and the book is well
+        // formed.
+        let answer = unsafe {
+            read_with!(
+                self,
+                settlement_book_periods_within(point, element, rows, length, &mut count)
+            )
+        };
+        Question::none_of(answer).map(|()| self.periods_listed(count))
+    }
+
+    /// The same through the exported function that asks questions 2 to 5 first.
+    pub fn periods_checked(
+        &mut self,
+        point: u64,
+        element: u64,
+    ) -> Result<impl ExactSizeIterator<Item = Period> + '_, Question> {
+        let mut count = 0;
+        let (rows, length) = (self.rows.as_mut_ptr(), self.rows.len());
+        // Safety: nine numbers, and as many rows as there are links.
+        let answer = unsafe {
+            read_with!(
+                self,
+                settlement_book_periods(point, element, rows, length, &mut count)
+            )
+        };
+        Question::none_of(answer).map(|()| self.periods_listed(count))
+    }
+
+    #[inline]
+    fn periods_listed(&self, count: u64) -> impl ExactSizeIterator<Item = Period> + '_ {
+        let rows = &self.rows[..count as usize];
+        rows.iter().map(|word| Period::of_row(*word))
+    }
+
+    /// A day of the month on which the point counts but for a missing holder and has a
+    /// link, if there is one; or question 7.
+    #[inline]
+    pub fn day_without_holder(&self, point: u64) -> Result<Option<u64>, Question> {
+        let mut day = NO_DAY;
+        // Safety: nine numbers, and the book is well formed.
+        let answer = unsafe {
+            read_with!(
+                self,
+                settlement_book_day_without_holder_within(point, &mut day)
+            )
+        };
+        Question::none_of(answer).map(|()| (day < NO_DAY).then_some(day))
+    }
+
+    /// The same through the exported function that asks questions 2 to 5 first.
+    pub fn day_without_holder_checked(&self, point: u64) -> Result<Option<u64>, Question> {
+        let mut day = NO_DAY;
+        // Safety: nine numbers.
+        let answer =
+            unsafe { read_with!(self, settlement_book_day_without_holder(point, &mut day)) };
+        Question::none_of(answer).map(|()| (day < NO_DAY).then_some(day))
+    }
+
+    /// The month of the book.
+    pub fn month(&self) -> Month {
+        Month {
+            year: self.numbers[0],
+            month: self.numbers[1],
+        }
+    }
+
+    /// The counts of the book.
+    pub fn counts(&self) -> Counts {
+        Counts {
+            points: self.numbers[2],
+            suppliers: self.numbers[3],
+            elements: self.numbers[4],
+        }
+    }
+}
+
+fn line_of([quantity, kroner, billionths]: [i64; 3]) -> Line {
+    Line {
+        quantity,
+        kroner,
+        // Promised to be 0 to 999,999,999.
+        billionths: billionths as u64,
+    }
+}

@@ -1,0 +1,257 @@
+//! Document 01's listing through the library, what it refuses, and its two forms of
+//! each call against each other.
+
+use settlement_book::{Book, Counts, Element, Fields, Line, Month, Period, Question, Record};
+use settlement_book::{days_in_month, first_day};
+
+const MARCH: Month = Month {
+    year: 2024,
+    month: 3,
+};
+const FIRST: u64 = 8826;
+
+fn counts(points: u64, suppliers: u64, elements: u64) -> Counts {
+    Counts {
+        points,
+        suppliers,
+        elements,
+    }
+}
+
+fn element(kind: u8, owner: u8, marks: u8) -> Element {
+    Element { kind, owner, marks }
+}
+
+fn prices(each: &[i64]) -> Vec<i64> {
+    let mut prices = vec![0; each.len() * 24];
+    for (place, price) in each.iter().enumerate() {
+        prices[place * 24] = *price;
+    }
+    prices
+}
+
+/// A message that is received on the first day of the month.
+fn told(kind: u64, role: u64, element: u64, day: u64, hour: u64, value: u64) -> Fields {
+    Fields {
+        kind,
+        role,
+        received: FIRST,
+        element,
+        day,
+        hour,
+        value,
+        ..Fields::default()
+    }
+}
+
+/// The listing's book before its first round.
+fn listing() -> Book {
+    let elements = [element(1, 1, 0), element(3, 1, 0)];
+    let prices = prices(&[20_000_000, 500_000]);
+    let mut book = Book::open(MARCH, counts(1, 2, 2), &elements, &prices).unwrap();
+    for message in [
+        told(5, 1, 0, FIRST, 0, 2),
+        told(4, 2, 0, FIRST, 0, 1),
+        told(4, 2, 0, 8841, 0, 2),
+        told(1, 1, 0, FIRST, 0, 2),
+        told(1, 1, 1, FIRST, 0, 1),
+        told(6, 1, 0, 8840, 23, 1000),
+        told(6, 1, 0, 8841, 0, 3000),
+    ] {
+        assert_eq!(book.message(&message), Ok(&[][..]));
+    }
+    book
+}
+
+fn record(kind: u64, supplier: u64, element: u64, numbers: (i64, i64, u64)) -> Record {
+    Record {
+        kind,
+        supplier,
+        element,
+        quantity: numbers.0,
+        kroner: numbers.1,
+        billionths: numbers.2,
+    }
+}
+
+#[test]
+fn the_listing_gives_its_records() {
+    let mut book = listing();
+    let round = told(8, 2, 0, 0, 0, 0);
+    let fixing = [
+        record(1, 1, 0, (30, 19, 354_830_000)),
+        record(1, 1, 1, (1000, 0, 500_000_000)),
+        record(1, 2, 0, (32, 20, 645_152_000)),
+        record(1, 2, 1, (3000, 1, 500_000_000)),
+    ];
+    assert_eq!(book.message(&round), Ok(&fixing[..]));
+    assert_eq!(book.message(&told(6, 1, 0, 8841, 0, 2500)), Ok(&[][..]));
+    let refixing = [record(2, 2, 1, (-500, -1, 750_000_000))];
+    assert_eq!(book.message(&round), Ok(&refixing[..]));
+    let again = told(1, 1, 0, 8830, 0, 1);
+    assert_eq!(book.message(&again), Err(Question::AlreadyLinked));
+    // The kind advances even where there is nothing to send.
+    assert_eq!(book.message_checked(&round), Ok(&[][..]));
+    let line = Line {
+        quantity: 2500,
+        kroner: 1,
+        billionths: 250_000_000,
+    };
+    assert_eq!(book.line(2, 1), Ok(line));
+    assert_eq!(book.line_checked(2, 1), Ok(line));
+}
+
+#[test]
+fn queries_answer_or_name_the_question() {
+    let mut book = listing();
+    assert_eq!(book.line(0, 0), Err(Question::OutOfRange));
+    assert_eq!(book.line(3, 0), Err(Question::OutOfRange));
+    assert_eq!(book.line(1, 2), Err(Question::UnknownElement));
+    let whole = Period {
+        first: FIRST,
+        past: 36_525,
+        quantity: 2,
+    };
+    assert_eq!(
+        book.periods(0, 0).unwrap().collect::<Vec<_>>(),
+        [whole],
+        "one period, which nothing ends"
+    );
+    assert_eq!(book.message(&told(3, 1, 0, 8830, 0, 5)), Ok(&[][..]));
+    let split = [
+        Period {
+            past: 8830,
+            ..whole
+        },
+        Period {
+            first: 8830,
+            quantity: 5,
+            ..whole
+        },
+    ];
+    assert_eq!(book.periods(0, 0).unwrap().collect::<Vec<_>>(), split);
+    assert_eq!(book.periods(1, 0).err(), Some(Question::UnknownPoint));
+    assert_eq!(book.periods(0, 2).err(), Some(Question::UnknownElement));
+    assert_eq!(book.day_without_holder(0), Ok(None));
+    assert_eq!(book.message(&told(4, 2, 0, 8850, 0, 0)), Ok(&[][..]));
+    assert_eq!(book.day_without_holder(0), Ok(Some(8850)));
+    assert_eq!(book.day_without_holder(1), Err(Question::UnknownPoint));
+}
+
+#[test]
+fn an_opening_names_the_question() {
+    let tariff = [element(3, 1, 0)];
+    let price = prices(&[1]);
+    let open = |month: Month, counts: Counts| Book::open(month, counts, &tariff, &price).err();
+    let one = counts(1, 1, 1);
+    assert_eq!(open(MARCH, one), None);
+    for (year, month) in [(1999, 12), (2100, 1), (2024, 0), (2024, 13), (u64::MAX, 2)] {
+        assert_eq!(
+            open(Month { year, month }, one),
+            Some(Question::OutOfLimits)
+        );
+    }
+    for wrong in [
+        counts(0, 1, 1),
+        counts(257, 1, 1),
+        counts(1, 0, 1),
+        counts(1, 17, 1),
+        counts(1, 1, 0),
+        counts(1, 1, 65),
+        counts(u64::MAX, u64::MAX, u64::MAX),
+    ] {
+        assert_eq!(open(MARCH, wrong), Some(Question::OutOfLimits));
+    }
+    assert_eq!(open(MARCH, counts(1, 1, 2)), Some(Question::WrongLength));
+    let short = Book::open(MARCH, one, &tariff, &price[..23]).err();
+    assert_eq!(short, Some(Question::WrongLength));
+    let wrong = Book::open(MARCH, one, &[element(4, 1, 0)], &price).err();
+    assert_eq!(wrong, Some(Question::WrongElement));
+}
+
+#[test]
+fn every_month_opens() {
+    let mut day = 0;
+    for year in 2000..2100 {
+        for month in 1..=12 {
+            assert_eq!(first_day(year, month), day);
+            day += days_in_month(year, month);
+            let month = Month { year, month };
+            let book = Book::open(month, counts(3, 1, 1), &[element(3, 1, 0)], &prices(&[1]));
+            assert_eq!(book.unwrap().month(), month);
+        }
+    }
+    assert_eq!(day, 36_525);
+}
+
+/// The splitmix64 sequence.
+struct Random(u64);
+
+impl Random {
+    fn below(&mut self, limit: u64) -> u64 {
+        self.0 = self.0.wrapping_add(0x9e37_79b9_7f4a_7c15);
+        let mut z = self.0;
+        z = (z ^ (z >> 30)).wrapping_mul(0xbf58_476d_1ce4_e5b9);
+        z = (z ^ (z >> 27)).wrapping_mul(0x94d0_49bb_1331_11eb);
+        (z ^ (z >> 31)) % limit
+    }
+
+    /// Mostly a message that means something, now and then any numbers.
+    fn message(&mut self) -> Fields {
+        let kind = 1 + self.below(8);
+        let uses = |kinds: &[u64], number: u64| {
+            if kinds.contains(&kind) { number } else { 0 }
+        };
+        let mut numbers = [
+            kind,
+            if [4, 8].contains(&kind) { 2 } else { 1 },
+            0,
+            FIRST,
+            uses(&[1, 2, 3, 4, 5, 6, 7], self.below(4)),
+            uses(&[1, 2, 3], self.below(4)),
+            uses(&[1, 2, 3, 4, 5, 6], FIRST - 10 + self.below(50)),
+            uses(&[6], self.below(24)),
+            uses(&[1, 3], 1 + self.below(2))
+                + uses(&[4], self.below(4))
+                + uses(&[5], 1 + self.below(4))
+                + uses(&[6], self.below(5000))
+                + uses(&[7], self.below(2)),
+        ];
+        if self.below(10) == 0 {
+            let place = self.below(9) as usize;
+            let bits = self.below(64);
+            numbers[place] = self.below(1 << bits);
+        }
+        Fields::from(numbers)
+    }
+}
+
+#[test]
+fn both_forms_of_each_call_agree() {
+    let elements = [
+        element(1, 1, 1),
+        element(2, 1, 0),
+        element(3, 1, 1),
+        element(3, 2, 4),
+    ];
+    let prices = prices(&[21_000_000, 150_000_000, -30_000, 761_000]);
+    let mut book = Book::open(MARCH, counts(4, 3, 4), &elements, &prices).unwrap();
+    let mut checked = book.clone();
+    let mut random = Random(7);
+    let mut accepted = 0;
+    for _ in 0..20_000 {
+        let message = random.message();
+        let answer = book.message(&message).map(<[Record]>::to_vec);
+        accepted += u64::from(answer.is_ok());
+        let other = checked.message_checked(&message).map(<[Record]>::to_vec);
+        assert_eq!(answer, other, "{message:?}");
+        let (one, two) = (random.below(6), random.below(6));
+        assert_eq!(book.line(one, two), checked.line_checked(one, two));
+        let day = book.day_without_holder(one);
+        assert_eq!(day, checked.day_without_holder_checked(one));
+        let periods = book.periods(one, two).map(Iterator::collect::<Vec<_>>);
+        let other = checked.periods_checked(one, two).map(Iterator::collect);
+        assert_eq!(periods, other);
+    }
+    assert!(accepted > 5_000, "{accepted} accepted");
+}
