@@ -30,8 +30,8 @@ const SUPPLIER: u64 = 3;
 /// March 2024.
 const YEAR: u64 = 2024;
 const MONTH: u64 = 3;
-const FIRST: u64 = 8826;
-const DAYS: u64 = 31;
+pub const FIRST: u64 = 8826;
+pub const DAYS: u64 = 31;
 const LAST: u64 = FIRST + DAYS - 1;
 
 #[derive(Clone)]
@@ -100,13 +100,8 @@ pub struct Input {
 }
 
 impl Input {
-    /// The batches of the month itself: without the rounds that have no differences.
-    pub fn month_batches(&self) -> impl Iterator<Item = &Batch> {
-        self.batches.iter().filter(|b| b.row != EMPTY_ROUNDS)
-    }
-
     pub fn message_count(&self) -> u64 {
-        self.month_batches().map(|b| b.messages.len() as u64).sum()
+        self.batches.iter().map(|b| b.messages.len() as u64).sum()
     }
 
     /// The month as a file of document 01.
@@ -125,7 +120,7 @@ impl Input {
                 bytes.extend(price.to_be_bytes());
             }
         }
-        for batch in self.month_batches() {
+        for batch in &self.batches {
             for m in &batch.messages {
                 bytes.extend([3, 0, 19]);
                 bytes.extend([m[0] as u8, m[1] as u8, m[2] as u8]);
@@ -221,7 +216,7 @@ impl Writer {
     }
 
     fn round(&mut self) {
-        self.must_send([ROUND, ENERGINET, 0, LAST + 1, 0, 0, 0, 0, 0]);
+        self.must_send(A_ROUND);
     }
 
     /// Every hour of the month, as days go by.
@@ -250,16 +245,22 @@ impl Writer {
             .collect()
     }
 
-    fn end(mut self, name: String) -> Input {
-        self.batches.push(Batch {
-            row: EMPTY_ROUNDS,
-            messages: vec![[ROUND, ENERGINET, 0, LAST + 1, 0, 0, 0, 0, 0]; 200],
-        });
+    fn end(self, name: String) -> Input {
         Input {
             name,
             opening: self.opening,
             batches: self.batches,
         }
+    }
+}
+
+const A_ROUND: [u64; 9] = [ROUND, ENERGINET, 0, LAST + 1, 0, 0, 0, 0, 0];
+
+/// Rounds that follow the last one of a month, and have no differences.
+pub fn empty_rounds(count: usize) -> Batch {
+    Batch {
+        row: EMPTY_ROUNDS,
+        messages: vec![A_ROUND; count],
     }
 }
 

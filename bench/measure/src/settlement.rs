@@ -1,6 +1,7 @@
 //! What a settlement is to the measurements, and the timing of one.
 
-use crate::inputs::{Input, MOST_IN_BATCH, Opening};
+use crate::growth::{Cost, costs};
+use crate::inputs::{Input, MOST_IN_BATCH, Opening, empty_rounds};
 use std::hint::black_box;
 use std::time::Instant;
 
@@ -9,6 +10,10 @@ use std::time::Instant;
 pub type Record = (u64, u64, u64, i64, i64, u64);
 
 pub trait Settlement: Sized {
+    /// Of the line queries and of the rounds without differences, one in so many is
+    /// timed.
+    const SHARE: usize = 1;
+
     /// Opens a book that is known to be right.
     fn open(opening: &Opening) -> Self;
 
@@ -23,7 +28,7 @@ pub trait Settlement: Sized {
     fn line(&self, supplier: u64, element: u64) -> (i64, i64, u64);
 
     /// How many periods are recorded for a point and an element.
-    fn period_count(&self, point: u64, element: u64) -> u64;
+    fn period_count(&mut self, point: u64, element: u64) -> u64;
 
     /// A day on which the point counts but for a missing holder and has a link.
     fn day_without_holder(&self, point: u64) -> Option<u64>;
@@ -38,6 +43,7 @@ pub struct Implementation {
     pub check: fn(&Input) -> Outcome,
     pub by_kind: fn(&Input) -> Timing,
     pub whole: fn(&Input) -> f64,
+    pub growth: fn(&Input, f64) -> Vec<Cost>,
 }
 
 pub const fn implementation<S: Settlement>(name: &'static str) -> Implementation {
@@ -46,6 +52,7 @@ pub const fn implementation<S: Settlement>(name: &'static str) -> Implementation
         check: check::<S>,
         by_kind: by_kind::<S>,
         whole: whole::<S>,
+        growth: costs::<S>,
     }
 }
 
@@ -59,6 +66,10 @@ pub struct Outcome {
     pub days_without_holder: Vec<Option<u64>>,
 }
 
+/// Rounds without differences that are checked and timed.
+const EMPTY_CHECKED: usize = 2;
+const EMPTY_TIMED: usize = 200;
+
 fn check<S: Settlement>(input: &Input) -> Outcome {
     let mut settlement = S::open(&input.opening);
     let mut outcome = Outcome {
@@ -68,7 +79,8 @@ fn check<S: Settlement>(input: &Input) -> Outcome {
         periods: Vec::new(),
         days_without_holder: Vec::new(),
     };
-    for batch in &input.batches {
+    let after = empty_rounds(EMPTY_CHECKED);
+    for batch in input.batches.iter().chain([&after]) {
         for fields in &batch.messages {
             outcome.refused += u64::from(settlement.message(fields) != 0);
             if fields[0] == 8 {
@@ -137,7 +149,8 @@ fn by_kind<S: Settlement>(input: &Input) -> Timing {
         timing.batches.push((row, number as u64, seconds.max(0.0)));
     };
     let mut settlement = S::open(&input.opening);
-    for batch in &input.batches {
+    let after = empty_rounds(EMPTY_TIMED / S::SHARE);
+    for batch in input.batches.iter().chain([&after]) {
         time(batch.row, batch.messages.len(), &mut || {
             for fields in &batch.messages {
                 black_box(settlement.message(fields));
@@ -147,7 +160,7 @@ fn by_kind<S: Settlement>(input: &Input) -> Timing {
 
     let (points, suppliers) = (input.opening.points, input.opening.suppliers);
     let elements = input.opening.elements.len() as u64;
-    let lines: Vec<(u64, u64)> = (0..QUERIES)
+    let lines: Vec<(u64, u64)> = (0..QUERIES / S::SHARE as u64)
         .map(|n| (1 + n / elements % suppliers, n % elements))
         .collect();
     let pairs: Vec<(u64, u64)> = (0..QUERIES)
@@ -183,7 +196,7 @@ fn by_kind<S: Settlement>(input: &Input) -> Timing {
 fn whole<S: Settlement>(input: &Input) -> f64 {
     let start = Instant::now();
     let mut settlement = S::open(&input.opening);
-    for batch in input.month_batches() {
+    for batch in &input.batches {
         for fields in &batch.messages {
             black_box(settlement.message(fields));
         }

@@ -1,19 +1,24 @@
-//! The settlement with SQLite, its database in memory.
+//! The settlement with SQLite, its database in memory: lines updated by each message,
+//! or summed by each round and line query.
 
 use crate::inputs::Opening;
 use crate::settlement::{Record, Settlement};
 use crate::with_twin::numbers_of;
+use sqlite::{Book, Lines};
 
-pub struct Sqlite {
-    book: sqlite::Book,
+pub struct Sqlite<const SUMS: bool> {
+    book: Book,
     records: Vec<twin::Record>,
 }
 
-impl Settlement for Sqlite {
+impl<const SUMS: bool> Settlement for Sqlite<SUMS> {
+    const SHARE: usize = if SUMS { 100 } else { 1 };
+
     fn open(opening: &Opening) -> Self {
         let (elements, prices) = opening.tables();
         let (month, counts) = (opening.month(), opening.counts());
-        match sqlite::Book::open(":memory:", month, counts, &elements, &prices) {
+        let lines = if SUMS { Lines::Summed } else { Lines::Updated };
+        match Book::open(":memory:", lines, month, counts, &elements, &prices) {
             Ok(book) => Sqlite {
                 book,
                 records: Vec::with_capacity(1024),
@@ -43,7 +48,7 @@ impl Settlement for Sqlite {
         }
     }
 
-    fn period_count(&self, point: u64, element: u64) -> u64 {
+    fn period_count(&mut self, point: u64, element: u64) -> u64 {
         self.book.period_count(point, element)
     }
 

@@ -41,7 +41,7 @@ impl Settlement for Twin {
         }
     }
 
-    fn period_count(&self, point: u64, element: u64) -> u64 {
+    fn period_count(&mut self, point: u64, element: u64) -> u64 {
         let periods = self.book.periods(point, element);
         periods.map_or(0, |periods| periods.len() as u64)
     }

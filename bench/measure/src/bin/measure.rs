@@ -125,15 +125,32 @@ fn measure_book(input: &Input, chosen: &[&Implementation], seconds: f64) -> Resu
     Ok(())
 }
 
+/// The seconds say of how many they are where these are fewer than the first one's.
 fn print_row(title: &str, numbers: &[(u64, f64)]) {
     print!("| {title} | {} |", numbers[0].0);
     for (count, seconds) in numbers {
-        print!(" {seconds:.6} | {:.0} |", *count as f64 / seconds);
+        let fewer = if *count == numbers[0].0 {
+            String::new()
+        } else {
+            format!(" (of {count})")
+        };
+        print!(" {seconds:.6}{fewer} | {:.0} |", *count as f64 / seconds);
     }
-    for (_, seconds) in &numbers[1..] {
-        print!(" {:.1} |", seconds / numbers[0].1);
+    let each = |(count, seconds): (u64, f64)| seconds / count as f64;
+    for number in &numbers[1..] {
+        print!(" {} |", ratio(each(*number) / each(numbers[0])));
     }
     println!();
+}
+
+/// A ratio to two or three digits.
+fn ratio(value: f64) -> String {
+    match value {
+        10.0.. => format!("{value:.0}"),
+        1.0.. => format!("{value:.1}"),
+        0.1.. => format!("{value:.2}"),
+        _ => format!("{value:.4}"),
+    }
 }
 
 /// Whether all of them give the same records, lines and answers, and none refuses.

@@ -21,26 +21,40 @@ fn main() -> ExitCode {
     }
 }
 
+struct Timed<'a> {
+    name: &'a str,
+    command: &'a str,
+    best: f64,
+}
+
+/// The programs take turns, so that all of them meet the machine's better moments.
 fn time_all(file: &str, runs: u32, commands: &[String]) -> Result<(), String> {
-    let mut first: Option<(Vec<u8>, f64)> = None;
-    println!("| program | seconds (best of {runs}) | times the first |");
-    println!("|---|---:|---:|");
+    let mut programs = Vec::new();
     for command in commands {
         let (name, command) = command.split_once('=').ok_or("a command has no name")?;
-        let mut best = f64::INFINITY;
-        let mut printed = Vec::new();
-        for _ in 0..runs.max(1) {
-            let (seconds, output) = run(file, command)?;
-            best = best.min(seconds);
-            printed = output;
+        programs.push(Timed {
+            name,
+            command,
+            best: f64::INFINITY,
+        });
+    }
+    let mut wanted: Option<Vec<u8>> = None;
+    for _ in 0..runs.max(1) {
+        for program in &mut programs {
+            let (seconds, printed) = run(file, program.command)?;
+            program.best = program.best.min(seconds);
+            if printed != *wanted.get_or_insert_with(|| printed.clone()) {
+                let name = program.name;
+                return Err(format!(
+                    "{name} prints something else than the first program"
+                ));
+            }
         }
-        let (wanted, base) = first.get_or_insert_with(|| (printed.clone(), best));
-        if printed != *wanted {
-            return Err(format!(
-                "{name} prints something else than the first program"
-            ));
-        }
-        println!("| {name} | {best:.4} | {:.1} |", best / *base);
+    }
+    println!("| program | seconds (best of {runs}) | times the first |");
+    println!("|---|---:|---:|");
+    for Timed { name, best, .. } in &programs {
+        println!("| {name} | {best:.4} | {:.2} |", best / programs[0].best);
     }
     Ok(())
 }

@@ -1,23 +1,33 @@
 //! Reads a settlement file of valid messages from standard input and prints what
-//! `settle` prints for it. The database is in memory; with `--disk FOLDER` it is a
-//! file of that folder, which is removed at the end.
+//! `settle` prints for it. Each message updates the lines; with `--sums` a round sums
+//! them anew. The database is in memory; with `--disk FOLDER` it is a file of that
+//! folder, which is removed at the end.
 
-use sqlite::Book;
+use sqlite::{Book, Lines};
 use std::io::{Read, Write};
 use std::process::ExitCode;
 use twin::file::{Field, Opening, message_fields, next_field, print_record};
 
 fn main() -> ExitCode {
     let arguments: Vec<String> = std::env::args().skip(1).collect();
-    let result = match &arguments[..] {
-        [] => settle(":memory:"),
-        [name, folder] if name == "--disk" => {
+    let mut words: Vec<&str> = arguments.iter().map(String::as_str).collect();
+    let sums = words.iter().position(|word| *word == "--sums");
+    let lines = match sums {
+        Some(place) => {
+            words.remove(place);
+            Lines::Summed
+        }
+        None => Lines::Updated,
+    };
+    let result = match words[..] {
+        [] => settle(":memory:", lines),
+        ["--disk", folder] => {
             let file = format!("{folder}/settlement-{}.db", std::process::id());
-            let result = settle(&file);
+            let result = settle(&file, lines);
             let _ = std::fs::remove_file(&file);
             result
         }
-        _ => Err("sqlite-settle [--disk FOLDER] < FILE".to_string()),
+        _ => Err("sqlite-settle [--sums] [--disk FOLDER] < FILE".to_string()),
     };
     match result {
         Ok(()) => ExitCode::SUCCESS,
@@ -28,7 +38,7 @@ fn main() -> ExitCode {
     }
 }
 
-fn settle(database: &str) -> Result<(), String> {
+fn settle(database: &str, lines: Lines) -> Result<(), String> {
     let mut bytes = Vec::new();
     std::io::stdin()
         .read_to_end(&mut bytes)
@@ -47,7 +57,7 @@ fn settle(database: &str) -> Result<(), String> {
             (Some(Field::Message(value)), _) => {
                 let book = match &mut open_book {
                     Some(book) => book,
-                    None => open_book.insert(open(database, &opening, &mut printed)?),
+                    None => open_book.insert(open(database, lines, &opening, &mut printed)?),
                 };
                 book.message(&message_fields(value), &mut records);
                 for record in records.drain(..) {
@@ -59,7 +69,7 @@ fn settle(database: &str) -> Result<(), String> {
     }
     let book = match open_book {
         Some(book) => book,
-        None => open(database, &opening, &mut printed)?,
+        None => open(database, lines, &opening, &mut printed)?,
     };
     book.commit()?;
     std::io::stdout()
@@ -67,9 +77,15 @@ fn settle(database: &str) -> Result<(), String> {
         .map_err(|e| e.to_string())
 }
 
-fn open(database: &str, opening: &Opening, printed: &mut Vec<u8>) -> Result<Book, String> {
+fn open(
+    database: &str,
+    lines: Lines,
+    opening: &Opening,
+    printed: &mut Vec<u8>,
+) -> Result<Book, String> {
     let book = Book::open(
         database,
+        lines,
         opening.month,
         opening.counts,
         &opening.elements,
