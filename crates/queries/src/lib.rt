@@ -9,7 +9,7 @@ ghost use lib.ListN.{length, replicate};
 ghost use Rattle.rules.specs.Basics.{within, anyTo};
 ghost use Rattle.rules.specs.World.{openingOf, tablesOf, worldOf, countingState, linkedOn};
 ghost use Rattle.rules.specs.Effects.{ask};
-ghost use Rattle.rules.specs.Queries.{lineNumber, periodsNumber, periodsQuery, dayNumber, lacksHolder};
+ghost use Rattle.rules.specs.Queries.{periodsNumber, periodsQuery, dayNumber, lacksHolder};
 ghost use Rattle.rules.specs.Answers.{numberOf};
 ghost use Rattle.rules.proofs.Parts.{Whole};
 ghost use Rattle.tables.specs.Order.{LinkRows};

@@ -219,7 +219,8 @@ fn apply(
         day,
         hour,
         energy,
-    } = body else {
+    } = body
+    else {
         return apply_lines(
             book,
             element_data,

@@ -1,7 +1,7 @@
 -- The answers of the inner functions, said in numbers.
 use Prim.Native.Nat.{ℕ, _+_, _≤_, _<_}
 use native.Mathlib.Omega.{arith}
-use mathlib.Core.Path.{_≡_, refl, sym, ap, _∙_}
+use mathlib.Core.Path.{_≡_, sym, ap, _∙_}
 use mathlib.Core.Logic.{_≢_}
 use mathlib.Core.Bool.{Bool, true, false, _&&_}
 use mathlib.Core.List.{List}
@@ -9,7 +9,7 @@ use mathlib.Core.Option.{Option, none, some}
 use lib.Dec.{T, eqb, leb, ltb, ltb→lt}
 use lib.IntN.{ℤ}
 use lib.ListN.{length, take, length-take}
-use borrow.Author.Tests.{eq-eqb, ne-eqb, eqb-true, eqb-false, ltb-true}
+use borrow.Author.Tests.{eq-eqb, ne-eqb, eqb-true}
 use Rattle.calendar.specs.MonthLaws.{month-within}
 use Rattle.rules.specs.declared.Answer.{Answer}
 use Rattle.rules.specs.declared.Book.{Book}
@@ -21,7 +21,7 @@ use Rattle.rules.specs.Lines.{Measure}
 use Rattle.rules.specs.Basics.{when}
 use Rattle.rules.specs.World.{World, Opening, Tables, bookOf, monthFirst, monthDays, stored, rowsOf}
 use Rattle.rules.specs.Questions.{question16}
-use Rattle.rules.specs.Opening.{openingAnswer, opened, afterOpening}
+use Rattle.rules.specs.Opening.{openingAnswer, afterOpening}
 use Rattle.rules.specs.Queries.{LineResult, lineNumber, lineQuery, lineNamed, lineRefused, periodsNumber, periodsQuery, dayNumber, lacksHolder}
 use Rattle.rules.specs.Answers.{numberOf, lineResult}
 use Rattle.rules.proofs.Tests.{cases}
@@ -35,7 +35,7 @@ use Rattle.queries.proofs.Opens.{began}
 use Rattle.queries.proofs.Asks.{line-passed, day-passed}
 use Rattle.settlement.specs.declared.Reply.{Reply}
 use Rattle.settlement.specs.Replies.{Replied}
-use Rattle.settlement_book.specs.Numbers.{numbersIn, lineNumbers, lineAfter, InKrone, noDay, dayAfter, dayAnswerNumber}
+use Rattle.settlement_book.specs.Numbers.{numbersIn, lineNumbers, lineAfter, InKrone, dayAfter, dayAnswerNumber}
 use Rattle.settlement_book.specs.Promises.{OpensIn, RepliesIn, LineIn, DayIn}
 use Rattle.settlement_book.proofs.Lists.{pair-length}
 
@@ -60,7 +60,7 @@ module _ (w : World) (s e : ℕ) where
   line-small (LineAnswer.Line q k b) h =
       let p = line-passed w s e (eqb-true _ _ (sym (h .told))) in
       let f : b ≡ lineNamed (stored (w .opening) (w .position .lines) Measure.quantity s e) (stored (w .opening) (w .position .lines) Measure.amount s e) .billionths =
-          ap (λ (x : LineResult). x .billionths) (h .stored ∙ query-stored w (p .0) s e (p .1)) in
+      ap (λ (x : LineResult). x .billionths) (h .stored ∙ query-stored w (p .0) s e (p .1)) in
       rw f (billionths-lt _)
   line-small (LineAnswer.Refused a) h = omega arith
 

@@ -1,5 +1,5 @@
 -- `settlement_book::put_day` meets its contract: by the case of the answer.
-use mathlib.Core.Path.{refl, sym, ap, _∙_}
+use mathlib.Core.Path.{sym, ap, _∙_}
 use Rattle.settlement_book.specs.Numbers.{dayAfter, dayAnswerNumber}
 use borrow.Author.Needs.{needs}
 use Rattle.settlement_book.proofs.put_day.Statement.{statement}

@@ -4,7 +4,7 @@ use mathlib.Core.Path.{refl, sym, ap, _∙_}
 use Rattle.rules.specs.Queries.{lineRefused}
 use Rattle.rules.specs.Answers.{lineResult}
 use Rattle.integers.specs.Integers.{pos-fits, back, cast-is}
-use Rattle.settlement_book.specs.Numbers.{lineAfter, InKrone}
+use Rattle.settlement_book.specs.Numbers.{lineAfter}
 use Rattle.settlement_book.proofs.Lists.{three-set}
 use borrow.Author.Needs.{needs}
 use Rattle.settlement_book.proofs.put_line.Statement.{statement}

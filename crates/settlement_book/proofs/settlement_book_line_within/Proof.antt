@@ -18,7 +18,6 @@ same-length c = search needs
 
 returns : tie.Need-returns
 returns c =
-    let a = c .before .before .before .before .before .before .before .before .before .before .before .before .args in
     let t = c .before .put-line .ensures in
     line-in-numbers _ _ _ _ (rw (c .before .before .before .before .book-of .ensures) at (c .before .before .before .line-within .ensures)) _ (t .0) _ _ (t .1)
 
