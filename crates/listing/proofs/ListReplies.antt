@@ -15,10 +15,12 @@ use Rattle.rules.specs.Basics.{listTo}
 use Rattle.rules.specs.World.{World}
 use Rattle.rules.specs.Effects.{supplierOf, elementOf, recordOf, recordsOf, listAfter, answer, accepted, step, stepBy, writtenBy}
 use Rattle.rules.proofs.Ranges.{length-listTo}
+use Rattle.rules.proofs.Parts.{Whole}
 use Rattle.rounds.specs.Moved.{IsWorld}
 use Rattle.records.proofs.ListAfter.{after-refused}
 use Rattle.settlement.specs.declared.Reply.{Reply}
 use Rattle.settlement.specs.Replies.{Answered, Due}
+use Rattle.settlement.proofs.Stepping.{step-whole}
 use Rattle.listing.specs.Replies.{Replied}
 
 -- the records of the lines that are due, at the front of the list
@@ -36,6 +38,10 @@ pub replied-list : (w after : World) (b : Book) (ls ts : List ℤ) (f : Fields) 
     → Answered w after f r (length lent) → Replied w after f r lent out
 replied-list w after b ls ts f r lent out moved n i d e a =
     record { number = a .number; world = a .world; list = due-list w b ls ts f lent out moved n d (e w i); count = a .count }
+
+-- a book that is well formed stays so
+pub stays-whole : (w after : World) (f : Fields) (r : Reply) (lent out : List Record) → Whole w → Replied w after f r lent out → Whole after
+stays-whole w after f r lent out c p = rw (p .world) (step-whole w f (length lent) c)
 
 refused-none : (w : World) (f : Fields) (room : ℕ) → answer w f room ≢ 0 → accepted w f room ≡ none
 unfolding accepted

@@ -1,4 +1,5 @@
-// The entry points for messages that are lent a list of records: the records that are due go to its front, then the message is taken.
+// The entry point for messages that is lent a list of records: the records that are due go to its front, then the message is taken. Over it,
+// what a message prints.
 ghost use mathlib.Core.Path.{_≡_};
 ghost use mathlib.Core.Logic.{_≢_};
 ghost use mathlib.Core.Bool.{cond};
@@ -19,62 +20,10 @@ use rules::Fields;
 use rules::Record;
 use settlement::Reply;
 use settlement::due;
-use settlement::due_within;
 use settlement::take;
 use settlement::take_within;
 use wire::put_record;
 use wire::put_refused;
-
-// A message of a book that is well formed, and stays so. Cost: as for `settlement::take_within`.
-pub fn message_within(
-    book: Book,
-    element_data: &[u8],
-    prices: &[i64],
-    links: &mut [u64],
-    holders: &mut [u64],
-    states: &mut [u64],
-    readings: &mut [u32],
-    blocks: &mut [u8],
-    lines: &mut [i64],
-    sent: &mut [i64],
-    records: &mut [Record],
-    fields: Fields,
-) -> Reply
-    requires { ⌜ Whole (worldOf book (now element_data) (now prices) (now links) (now holders) (now states) (now readings) (now blocks) (now lines) (now sent)) ⌝ }
-    ensures { λ r. ⌜ Replied (worldOf book (now (element_data .entry)) (now (prices .entry)) (now (links .entry)) (now (holders .entry)) (now (states .entry)) (now (readings .entry)) (now (blocks .entry)) (now (lines .entry)) (now (sent .entry))) (worldOf (r .book) (now (element_data .entry)) (now (prices .entry)) (now (links .exit)) (now (holders .exit)) (now (states .exit)) (now (readings .exit)) (now (blocks .exit)) (now (lines .exit)) (now (sent .exit))) fields r (now (records .entry)) (now (records .exit)) × Whole (worldOf (r .book) (now (element_data .entry)) (now (prices .entry)) (now (links .exit)) (now (holders .exit)) (now (states .exit)) (now (readings .exit)) (now (blocks .exit)) (now (lines .exit)) (now (sent .exit))) ⌝ }
-{
-    let mut moved = [0u64; 1024];
-    let count = due_within(
-        book,
-        element_data,
-        prices,
-        links,
-        holders,
-        states,
-        readings,
-        blocks,
-        lines,
-        sent,
-        records.len(),
-        fields,
-        &mut moved,
-    );
-    put_list(records, book, lines, sent, &moved, count);
-    take_within(
-        book,
-        element_data,
-        prices,
-        links,
-        holders,
-        states,
-        readings,
-        blocks,
-        lines,
-        sent,
-        records.len(),
-        fields,
-    )
-}
 
 // A message of any book and any tables: questions 2 to 18. A refusal leaves book, tables and list as they were.
 pub fn message(
@@ -187,7 +136,7 @@ fn put_answer(reply: Reply, message: u64, out: &mut [u8], at: usize) -> Printed
     Printed { reply, written }
 }
 
-// A message of a book that is well formed, and stays so, with a list of 1,024 records: what it prints, from a place on. Cost: as for `message_within`.
+// A message of a book that is well formed, and stays so, with a list of 1,024 records: what it prints, from a place on. Cost: as for `message`.
 fn message_text(
     book: Book,
     element_data: &[u8],
@@ -215,7 +164,7 @@ fn message_text(
         kroner: 0,
         billionths: 0,
     }; 1024];
-    let reply = message_within(
+    let reply = crate::message(
         book,
         element_data,
         prices,
@@ -233,8 +182,9 @@ fn message_text(
     put_answer(reply, message, out, written)
 }
 
-// A message of a book that is well formed, and stays so: what it prints, from a place on. Only a round has records: no other message lays out the
-// list, of 48 KB, and the table of moved lines, of 8 KB. Cost: as for `message_within`.
+// A message of a book that is well formed, and stays so: what it prints, from a place on. Only a round has records: no other message
+// lays out the list, of 48 KB, and the table of moved lines, of 8 KB. Cost: of a round linear in what is lent, since `message` asks the
+// questions of the book; of another message as for `settlement::take_within`.
 pub fn message_printed(
     book: Book,
     element_data: &[u8],

@@ -68,11 +68,12 @@ use Rattle.listing.proofs.Printed as Q
 use Rattle.listing.proofs.Printed.Laws as Q′
 use Rattle.listing.proofs.Lending.{LentAgain, lends-again, comes-back}
 use Rattle.listing.proofs.LocalArray.{big-lit, repeated, stands, falls, LentLocal, SharedLocal, lends-local, shares-local, local-back, shared-local-back}
+use Rattle.listing.proofs.ListReplies.{stays-whole}
 use Rattle.listing.proofs.Texts.{records-fit, few-records, refusal-fits, texted}
-use Rattle.listing.proofs.message_within as message-within
-use Rattle.listing.proofs.message_within.Symbol as message-within-def
-use Rattle.listing.proofs.message_within.Symbol.{name as #listing·message-within}
-use Rattle.listing.proofs.message_within.Met as message-within-thm
+use Rattle.listing.proofs.message as entry
+use Rattle.listing.proofs.message.Symbol as entry-def
+use Rattle.listing.proofs.message.Symbol.{name as #listing·message}
+use Rattle.listing.proofs.message.Met as entry-thm
 use Rattle.listing.proofs.put_entries as put-entries
 use Rattle.listing.proofs.put_entries.Symbol as put-entries-def
 use Rattle.listing.proofs.put_entries.Symbol.{name as #listing·put-entries}
@@ -105,8 +106,8 @@ blank-is : Is T.the-row noRecord (blank ∷ [])
 blank-is = LL.owes T.the-type T′.the-laws noRecord ((refl, lit< tt), ((refl, lit< tt), ((refl, lit< tt), ((refl, lit< tt), ((refl, lit< tt), ((refl, lit< tt), tt))))))
 
 -- the contracts that the proof cites
-abbrev C-message-within : {M : Type 1} (𝓤 : URA M) (H : Heap 𝓤) (A : Atoms 𝓤) (mem : Memory → SProp 𝓤) (run : Routine → Fun 𝓤) → Contract 𝓤
-C-message-within 𝓤 H A mem run = tripleOf 𝓤 H A message-within.signature (message-within.spec 𝓤 H A mem run)
+abbrev C-entry : {M : Type 1} (𝓤 : URA M) (H : Heap 𝓤) (A : Atoms 𝓤) (mem : Memory → SProp 𝓤) (run : Routine → Fun 𝓤) → Contract 𝓤
+C-entry 𝓤 H A mem run = tripleOf 𝓤 H A entry.signature (entry.spec 𝓤 H A mem run)
 
 abbrev C-put-entries : {M : Type 1} (𝓤 : URA M) (H : Heap 𝓤) (A : Atoms 𝓤) (mem : Memory → SProp 𝓤) (run : Routine → Fun 𝓤) → Contract 𝓤
 C-put-entries 𝓤 H A mem run = tripleOf 𝓤 H A put-entries.signature (put-entries.spec 𝓤 H A mem run)
@@ -297,7 +298,7 @@ module _ {M : Type 1} (𝓤 : URA M) (H : Heap 𝓤) (A : Atoms 𝓤) (W : Given
         move ! (1 ∷ 0 ∷ []) $ fjoin ! $ owned ! B.the-row (Is B.the-row) ((LL.makes B.the-type B′.the-plain) 𝓤 H A) book _ book-is $ fjoin ! $
         owned ! Q.the-row (Is Q.the-row) ((LL.makes Q.the-type Q′.the-plain) 𝓤 H A) printed _ printed-is $ move ! (1 ∷ 0 ∷ []) $ done !
 
-    -- call 1: what is passed to `message_within`, what its triple binds outside, and that the caller has what it asks
+    -- call 1: what is passed to `message`, what its triple binds outside, and that the caller has what it asks
     module _ (z0-list : List Record) (long-z0-list : length z0-list ≡ 1024) (l15 : ℕ) (ν3 ν4 ν5 ν6 ν7 ν8 ν9 ν10 : ℕ) (δ3 δ4 δ5 δ6 δ7 δ8 δ9 δ10 : GName) where
       abbrev passed-1 : Book × ((RefT (List ℕ))
           × ((RefT (List ℤ)) × ((RefT (List ℕ))
@@ -323,11 +324,11 @@ module _ {M : Type 1} (𝓤 : URA M) (H : Heap 𝓤) (A : Atoms 𝓤) (W : Given
           ∷ MutSlice (named 4) (ν5 ∷ []) u64 ∷ MutSlice (named 5) (ν6 ∷ []) u32 ∷ MutSlice (named 6) (ν7 ∷ []) u8 ∷ MutSlice (named 7) (ν8 ∷ []) i64 ∷ MutSlice (named 8) (ν9 ∷ []) i64
           ∷ MutSlice (named 9) (ν10 ∷ []) T.the-row ∷ F.the-row ∷ []) passed-1 passed-vals-1
 
-      abbrev to-1 : C-message-within 𝓤 H A mem run .Ghost
+      abbrev to-1 : C-entry 𝓤 H A mem run .Ghost
       to-1 = ((κs-1, (q-element-data, (q-prices, (fullShare, (fullShare, (fullShare, (fullShare, (fullShare, (fullShare, (fullShare, (fullShare, tt)))))))))), tt, passed-1, passed-vals-1), tt)
 
-      asked-1 : ent 𝓤 (sep 𝓤 (sem 𝓤 H A Toks-1) (sem 𝓤 H A Passed-1)) (C-message-within 𝓤 H A mem run .pre to-1)
-      asked-1 = qed W (‵ Toks-1 ∷ ‵ Passed-1 ∷ []) ∵ says ! (pre .0) $ done !
+      asked-1 : ent 𝓤 (sep 𝓤 (sem 𝓤 H A Toks-1) (sem 𝓤 H A Passed-1)) (C-entry 𝓤 H A mem run .pre to-1)
+      asked-1 = qed W (‵ Toks-1 ∷ ‵ Passed-1 ∷ []) ∵ join ! $ frame ! $ done !
 
     -- call 2: what is passed to `put_entries`, what its triple binds outside, and that the caller has what it asks
     module _ (z0-list : List Record) (long-z0-list : length z0-list ≡ 1024) (reply : Reply) (reply-is : Is Y.the-row reply (LL.val Y.the-type Y′.the-laws reply ∷ [])) (z1-links : List ℕ)
@@ -391,7 +392,7 @@ module _ {M : Type 1} (𝓤 : URA M) (H : Heap 𝓤) (A : Atoms 𝓤) (W : Given
           (refusal-fits _ _ fields reply z0-list z1-list (e1 .0) long-z0-list n from-place (length ys-out) (length z2-out) (recordLines (take (reply .records) z1-list)) (e2 .end) (e2 .short)
           (pre .1) long-z2-out) $ done !
 
-    module _ (𝓣 : Tables 𝓤 H) (fm : FmC 𝓤 H (W .laws) (𝓣 .C)) (known-message-within : Triple 𝓤 (𝓣 .C #listing·message-within) (C-message-within 𝓤 H A mem run))
+    module _ (𝓣 : Tables 𝓤 H) (fm : FmC 𝓤 H (W .laws) (𝓣 .C)) (known-entry : Triple 𝓤 (𝓣 .C #listing·message) (C-entry 𝓤 H A mem run))
         (known-put-entries : Triple 𝓤 (𝓣 .C #listing·put-entries) (C-put-entries 𝓤 H A mem run)) (known-put-answer : Triple 𝓤 (𝓣 .C #listing·put-answer) (C-put-answer 𝓤 H A mem run))
         (l0 l1 l2 l3 l4 l5 l6 l7 l8 l9 l10 l11 l12 l13 l14 l15 l16 l17 l18 l19 l20 l21 l22 l23 l24 l25 l26 l27 l28 l29 l30 l31 l32 l33 l34 l35 l36 l37 l38 l39 l40 : ℕ) where
       abbrev C : Calls 𝓤 H
@@ -582,7 +583,7 @@ module _ {M : Type 1} (𝓤 : URA M) (H : Heap 𝓤) (A : Atoms 𝓤) (W : Given
           forget ! 21 refl $ forget ! 19 refl $ forget ! 17 refl $ forget ! 15 refl $ move ! (2 ∷ 3 ∷ 4 ∷ 5 ∷ 6 ∷ 7 ∷ 8 ∷ 9 ∷ 10 ∷ 0 ∷ 1 ∷ []) $
           stage-3 z0-list long-z0-list reply reply-is z1-links long-z1-links z1-holders long-z1-holders z1-states long-z1-states z1-readings long-z1-readings z1-blocks long-z1-blocks z1-lines long-z1-lines z1-sent long-z1-sent z1-list long-z1-list e1 n (subst (Is usize n) (uint-tells w64 n _ is) is) (zs .1 .1 .0) len2 e2))))))))))
 
-      -- from call 1, of `message_within`, on
+      -- from call 1, of `message`, on
       stage-1 : (z0-list : List Record) (long-z0-list : length z0-list ≡ 1024)
           → Sq W (‵ (had-element-data ys-element-data) ∷ ‵ (had-prices ys-prices) ∷ ‵ (had-links ys-links) ∷ ‵ (had-holders ys-holders) ∷ ‵ (had-states ys-states) ∷ ‵ (had-readings ys-readings)
           ∷ ‵ (had-blocks ys-blocks) ∷ ‵ (had-lines ys-lines) ∷ ‵ (had-sent ys-sent) ∷ ‵ (had-out ys-out) ∷ ‵ (had-list l15 z0-list)
@@ -655,9 +656,9 @@ module _ {M : Type 1} (𝓤 : URA M) (H : Heap 𝓤) (A : Atoms 𝓤) (W : Given
           owned ! F.the-row (Is F.the-row) ((LL.makes F.the-type F′.the-plain) 𝓤 H A) fields _ fields-is $ fjoin ! $ move ! (2 ∷ 0 ∷ []) $ fjoin ! $ move ! (3 ∷ 0 ∷ []) $ fjoin ! $
           move ! (4 ∷ 0 ∷ []) $ fjoin ! $ move ! (5 ∷ 0 ∷ []) $ fjoin ! $ move ! (6 ∷ 0 ∷ []) $ fjoin ! $ move ! (7 ∷ 0 ∷ []) $ fjoin ! $ move ! (8 ∷ 0 ∷ []) $ fjoin ! $ move ! (9 ∷ 0 ∷ []) $
           fjoin ! $ move ! (10 ∷ 0 ∷ []) $ fjoin ! $ move ! (11 ∷ 0 ∷ []) $ fjoin ! $ owned ! B.the-row (Is B.the-row) ((LL.makes B.the-type B′.the-plain) 𝓤 H A) book _ book-is $ fjoin ! $
-          move ! (1 ∷ 0 ∷ []) $ use2 W (raw (C-message-within 𝓤 H A mem run .pre (to-1 z0-list long-z0-list l15 ν3 ν4 ν5 ν6 ν7 ν8 ν9 ν10 δ3 δ4 δ5 δ6 δ7 δ8 δ9 δ10)))
+          move ! (1 ∷ 0 ∷ []) $ use2 W (raw (C-entry 𝓤 H A mem run .pre (to-1 z0-list long-z0-list l15 ν3 ν4 ν5 ν6 ν7 ν8 ν9 ν10 δ3 δ4 δ5 δ6 δ7 δ8 δ9 δ10)))
           (asked-1 z0-list long-z0-list l15 ν3 ν4 ν5 ν6 ν7 ν8 ν9 ν10 δ3 δ4 δ5 δ6 δ7 δ8 δ9 δ10) $
-          calls-at ! fm (C-message-within 𝓤 H A mem run) known-message-within (to-1 z0-list long-z0-list l15 ν3 ν4 ν5 ν6 ν7 ν8 ν9 ν10 δ3 δ4 δ5 δ6 δ7 δ8 δ9 δ10)
+          calls-at ! fm (C-entry 𝓤 H A mem run) known-entry (to-1 z0-list long-z0-list l15 ν3 ν4 ν5 ν6 ν7 ν8 ν9 ν10 δ3 δ4 δ5 δ6 δ7 δ8 δ9 δ10)
           (and-then ! (load ! (from ! (stop !)) (look ! 89 refl))
           (and-then ! (load ! (from ! (stop !)) (look ! 87 refl))
           (and-then ! (load ! (from ! (stop !)) (look ! 85 refl))
@@ -670,20 +671,16 @@ module _ {M : Type 1} (𝓤 : URA M) (H : Heap 𝓤) (A : Atoms 𝓤) (W : Given
           (and-then ! (load ! (from ! (stop !)) (look ! 28 refl))
           (and-then ! (load ! (from ! (stop !)) (look ! 24 refl)) (and-then ! (load ! (from ! (stop !)) (look ! 69 refl)) (no-more !))))))))))))) (λ v.
           use1 W (later (some (λ (reply : Reply). (‵ (Toks-1 z0-list long-z0-list l15 ν3 ν4 ν5 ν6 ν7 ν8 ν9 ν10 δ3 δ4 δ5 δ6 δ7 δ8 δ9 δ10) ⊛ ‵ (Y.the-row .own reply (v ∷ []))) ⊛ raw
-          (ensured 𝓤 H A message-within.ended (message-within.clauses 𝓤 H A mem run) (κs-1 z0-list long-z0-list l15 ν3 ν4 ν5 ν6 ν7 ν8 ν9 ν10 δ3 δ4 δ5 δ6 δ7 δ8 δ9 δ10)
+          (ensured 𝓤 H A entry.ended (entry.clauses 𝓤 H A mem run) (κs-1 z0-list long-z0-list l15 ν3 ν4 ν5 ν6 ν7 ν8 ν9 ν10 δ3 δ4 δ5 δ6 δ7 δ8 δ9 δ10)
           (passed-1 z0-list long-z0-list l15 ν3 ν4 ν5 ν6 ν7 ν8 ν9 ν10 δ3 δ4 δ5 δ6 δ7 δ8 δ9 δ10) tt reply)))) (id⊢ 𝓤 _) $ await ! tt $ pick ! (λ reply. split ! $ move ! (1 ∷ []) $
           use1 W (some (λ (zs : (Unit {0})
           × ((Unit {0}) × ((Unit {0}) × ((List ℕ) × ((List ℕ) × ((List ℕ) × ((List ℕ) × ((List ℕ) × ((List ℤ) × ((List ℤ) × ((List Record) × ((Unit {0}) × (Unit {0}))))))))))))). ‵
-          (lasts message-within.ended (κs-1 z0-list long-z0-list l15 ν3 ν4 ν5 ν6 ν7 ν8 ν9 ν10 δ3 δ4 δ5 δ6 δ7 δ8 δ9 δ10)
+          (lasts entry.ended (κs-1 z0-list long-z0-list l15 ν3 ν4 ν5 ν6 ν7 ν8 ν9 ν10 δ3 δ4 δ5 δ6 δ7 δ8 δ9 δ10)
           (passed-1 z0-list long-z0-list l15 ν3 ν4 ν5 ν6 ν7 ν8 ν9 ν10 δ3 δ4 δ5 δ6 δ7 δ8 δ9 δ10) zs) ⊛ raw
           (fact 𝓤 (Replied world (worldOf (reply .book) ys-element-data ys-prices (zs .1 .1 .1 .0) (zs .1 .1 .1 .1 .0) (zs .1 .1 .1 .1 .1 .0) (zs .1 .1 .1 .1 .1 .1 .0) (zs .1 .1 .1 .1 .1 .1 .1 .0)
-          (zs .1 .1 .1 .1 .1 .1 .1 .1 .0) (zs .1 .1 .1 .1 .1 .1 .1 .1 .1 .0)) fields reply z0-list (zs .1 .1 .1 .1 .1 .1 .1 .1 .1 .1 .0)
-          × Whole (worldOf (reply .book) ys-element-data ys-prices (zs .1 .1 .1 .0) (zs .1 .1 .1 .1 .0) (zs .1 .1 .1 .1 .1 .0) (zs .1 .1 .1 .1 .1 .1 .0) (zs .1 .1 .1 .1 .1 .1 .1 .0)
-          (zs .1 .1 .1 .1 .1 .1 .1 .1 .0) (zs .1 .1 .1 .1 .1 .1 .1 .1 .1 .0)))))) (id⊢ 𝓤 _) $ pick ! (λ zs. split ! $ move ! (1 ∷ []) $
+          (zs .1 .1 .1 .1 .1 .1 .1 .1 .0) (zs .1 .1 .1 .1 .1 .1 .1 .1 .1 .0)) fields reply z0-list (zs .1 .1 .1 .1 .1 .1 .1 .1 .1 .1 .0))))) (id⊢ 𝓤 _) $ pick ! (λ zs. split ! $ move ! (1 ∷ []) $
           heard ! (Replied world (worldOf (reply .book) ys-element-data ys-prices (zs .1 .1 .1 .0) (zs .1 .1 .1 .1 .0) (zs .1 .1 .1 .1 .1 .0) (zs .1 .1 .1 .1 .1 .1 .0) (zs .1 .1 .1 .1 .1 .1 .1 .0)
-          (zs .1 .1 .1 .1 .1 .1 .1 .1 .0) (zs .1 .1 .1 .1 .1 .1 .1 .1 .1 .0)) fields reply z0-list (zs .1 .1 .1 .1 .1 .1 .1 .1 .1 .1 .0)
-          × Whole (worldOf (reply .book) ys-element-data ys-prices (zs .1 .1 .1 .0) (zs .1 .1 .1 .1 .0) (zs .1 .1 .1 .1 .1 .0) (zs .1 .1 .1 .1 .1 .1 .0) (zs .1 .1 .1 .1 .1 .1 .1 .0)
-          (zs .1 .1 .1 .1 .1 .1 .1 .1 .0) (zs .1 .1 .1 .1 .1 .1 .1 .1 .1 .0))) (λ e1.
+          (zs .1 .1 .1 .1 .1 .1 .1 .1 .0) (zs .1 .1 .1 .1 .1 .1 .1 .1 .1 .0)) fields reply z0-list (zs .1 .1 .1 .1 .1 .1 .1 .1 .1 .1 .0)) (λ e1.
           fsplit ! $ drop ! $ fsplit ! $ drop ! $ fsplit ! $ drop ! $ fsplit ! $ fsplit ! $ move ! (1 ∷ []) $ feqL ! (λ len3. move ! (1 ∷ []) $ fsplit ! $ fsplit ! $ move ! (1 ∷ []) $
           feqL ! (λ len4. move ! (1 ∷ []) $ fsplit ! $ fsplit ! $ move ! (1 ∷ []) $ feqL ! (λ len5. move ! (1 ∷ []) $ fsplit ! $ fsplit ! $ move ! (1 ∷ []) $ feqL ! (λ len6. move ! (1 ∷ []) $
           fsplit ! $ fsplit ! $ move ! (1 ∷ []) $ feqL ! (λ len7. move ! (1 ∷ []) $ fsplit ! $ fsplit ! $ move ! (1 ∷ []) $ feqL ! (λ len8. move ! (1 ∷ []) $ fsplit ! $ fsplit ! $ move ! (1 ∷ []) $
@@ -725,7 +722,7 @@ module _ {M : Type 1} (𝓤 : URA M) (H : Heap 𝓤) (A : Atoms 𝓤) (W : Given
           forget ! 33 refl $ forget ! 31 refl $ forget ! 29 refl $ forget ! 27 refl $ forget ! 25 refl $ forget ! 23 refl $ move ! (9 ∷ 8 ∷ 7 ∷ 6 ∷ 5 ∷ 4 ∷ 3 ∷ 2 ∷ 1 ∷ 10 ∷ 0 ∷ []) $
           stage-2 z0-list long-z0-list reply (subst (Is Y.the-row reply) (LL.tells Y.the-type Y′.the-laws reply _ is) is) (zs .1 .1 .1 .0) len3 (zs .1 .1 .1 .1 .0) len4 (zs .1 .1 .1 .1 .1 .0) len5
           (zs .1 .1 .1 .1 .1 .1 .0) len6 (zs .1 .1 .1 .1 .1 .1 .1 .0) len7 (zs .1 .1 .1 .1 .1 .1 .1 .1 .0) len8 (zs .1 .1 .1 .1 .1 .1 .1 .1 .1 .0) len9 (zs .1 .1 .1 .1 .1 .1 .1 .1 .1 .1 .0)
-          (len10 ∙ long-z0-list) e1)))))))))))))))))))))))))))))
+          (len10 ∙ long-z0-list) (e1, stays-whole world _ fields reply z0-list _ (pre .0) e1))))))))))))))))))))))))))))))
 
       -- the local array is filled, and stands as its elements
       stage-0 : Sq W (‵ (had-element-data ys-element-data) ∷ ‵ (had-prices ys-prices) ∷ ‵ (had-links ys-links) ∷ ‵ (had-holders ys-holders) ∷ ‵ (had-states ys-states) ∷ ‵ (had-readings ys-readings)
@@ -742,7 +739,7 @@ module _ {M : Type 1} (𝓤 : URA M) (H : Heap 𝓤) (A : Atoms 𝓤) (W : Given
           move ! (1 ∷ 2 ∷ 3 ∷ 4 ∷ 5 ∷ 6 ∷ 7 ∷ 8 ∷ 9 ∷ 10 ∷ 0 ∷ []) $
           stage-1 (replicate 1024 noRecord) (length-replicate {A = Record} 1024 noRecord)
 
-    module _ (𝓣 : Tables 𝓤 H) (fm : FmC 𝓤 H (W .laws) (𝓣 .C)) (known-message-within : Triple 𝓤 (𝓣 .C #listing·message-within) (C-message-within 𝓤 H A mem run))
+    module _ (𝓣 : Tables 𝓤 H) (fm : FmC 𝓤 H (W .laws) (𝓣 .C)) (known-entry : Triple 𝓤 (𝓣 .C #listing·message) (C-entry 𝓤 H A mem run))
         (known-put-entries : Triple 𝓤 (𝓣 .C #listing·put-entries) (C-put-entries 𝓤 H A mem run)) (known-put-answer : Triple 𝓤 (𝓣 .C #listing·put-answer) (C-put-answer 𝓤 H A mem run)) where
       walk : ent 𝓤 (onEntry 𝓤 H A self.signature (κ-element-data, (κ-prices, (κ-links, (κ-holders, (κ-states, (κ-readings, (κ-blocks, (κ-lines, (κ-sent, (κ-out, tt))))))))))
           (q-element-data, (q-prices, (q-links, (q-holders, (q-states, (q-readings, (q-blocks, (q-lines, (q-sent, (q-out, tt)))))))))) a vals)
@@ -790,12 +787,12 @@ module _ {M : Type 1} (𝓤 : URA M) (H : Heap 𝓤) (A : Atoms 𝓤) (W : Given
           move ! (9 ∷ 19 ∷ []) $ fjoin ! $ move ! (9 ∷ 18 ∷ []) $ fjoin ! $ move ! (9 ∷ 17 ∷ []) $ fjoin ! $ move ! (9 ∷ 16 ∷ []) $ fjoin ! $ move ! (9 ∷ 15 ∷ []) $ fjoin ! $ move ! (9 ∷ 14 ∷ []) $
           fjoin ! $ move ! (9 ∷ 13 ∷ []) $ fjoin ! $ move ! (9 ∷ 12 ∷ []) $ fjoin ! $ move ! (9 ∷ 11 ∷ []) $ fjoin ! $ move ! (9 ∷ 10 ∷ []) $ fjoin ! $
           move ! (9 ∷ 8 ∷ 7 ∷ 6 ∷ 5 ∷ 4 ∷ 3 ∷ 2 ∷ 1 ∷ 0 ∷ []) $
-          stage-0 𝓣 fm known-message-within known-put-entries known-put-answer l0 l1 l2 l3 l4 l5 l6 l7 l8 l9 l10 l11 l12 l13 l14 l15 l16 l17 l18 l19 l20 l21 l22 l23 l24 l25 l26 l27 l28 l29 l30 l31 l32 l33 l34 l35 l36 l37 l38 l39 l40)))))))))))))))))))))))))))))))))))))))))
+          stage-0 𝓣 fm known-entry known-put-entries known-put-answer l0 l1 l2 l3 l4 l5 l6 l7 l8 l9 l10 l11 l12 l13 l14 l15 l16 l17 l18 l19 l20 l21 l22 l23 l24 l25 l26 l27 l28 l29 l30 l31 l32 l33 l34 l35 l36 l37 l38 l39 l40)))))))))))))))))))))))))))))))))))))))))
 
 module _ {M : Type 1} (𝓤 : URA M) (H : Heap 𝓤) (A : Atoms 𝓤) (W : Given 𝓤 H A) (mem : Memory → SProp 𝓤) (run : Routine → Fun 𝓤) where
-  message-text-walks : (𝓣 : Tables 𝓤 H) → Triple 𝓤 (𝓣 .C #listing·message-within) (C-message-within 𝓤 H A mem run) → Triple 𝓤 (𝓣 .C #listing·put-entries) (C-put-entries 𝓤 H A mem run)
+  message-text-walks : (𝓣 : Tables 𝓤 H) → Triple 𝓤 (𝓣 .C #listing·message) (C-entry 𝓤 H A mem run) → Triple 𝓤 (𝓣 .C #listing·put-entries) (C-put-entries 𝓤 H A mem run)
       → Triple 𝓤 (𝓣 .C #listing·put-answer) (C-put-answer 𝓤 H A mem run) → Walks 𝓤 H A self.ended stayed (WpFn 𝓤 H (𝓣 .C) (𝓣 .Λ) code.function) (self.clauses 𝓤 H A mem run)
-  message-text-walks 𝓣 known-message-within known-put-entries known-put-answer = walked 𝓤 H A self.ended stayed (self.clauses 𝓤 H A mem run) (WpFn 𝓤 H (𝓣 .C) (𝓣 .Λ) code.function)
+  message-text-walks 𝓣 known-entry known-put-entries known-put-answer = walked 𝓤 H A self.ended stayed (self.clauses 𝓤 H A mem run) (WpFn 𝓤 H (𝓣 .C) (𝓣 .Λ) code.function)
       (λ κs. (LL.vals B.the-type B′.the-laws, (slice-vals, (slice-vals, (slice-vals, (slice-vals, (slice-vals, (slice-vals, (slice-vals, (slice-vals, (slice-vals, (LL.vals F.the-type F′.the-laws, (uint-vals w64, (slice-vals, (uint-vals w64, tt))))))))))))))) (λ κs. (LL.tells B.the-type B′.the-laws, (shr-slice-tells (named 0) (κs .0) u8, (shr-slice-tells (named 1) (κs .1 .0) i64, (mut-slice-tells (named 2) (κs .1 .1 .0) u64, (mut-slice-tells (named 3) (κs .1 .1 .1 .0) u64, (mut-slice-tells (named 4) (κs .1 .1 .1 .1 .0) u64, (mut-slice-tells (named 5) (κs .1 .1 .1 .1 .1 .0) u32, (mut-slice-tells (named 6) (κs .1 .1 .1 .1 .1 .1 .0) u8, (mut-slice-tells (named 7) (κs .1 .1 .1 .1 .1 .1 .1 .0) i64, (mut-slice-tells (named 8) (κs .1 .1 .1 .1 .1 .1 .1 .1 .0) i64, (LL.tells F.the-type F′.the-laws, (uint-tells w64, (mut-slice-tells (named 9) (κs .1 .1 .1 .1 .1 .1 .1 .1 .1 .0) u8, (uint-tells w64, tt)))))))))))))))
       (λ κs qs bounds a g are. needs 𝓤 (Callable (a .0) (a .1 .0 .now) (a .1 .1 .0 .now) (a .1 .1 .1 .0 .now) (a .1 .1 .1 .1 .0 .now) (a .1 .1 .1 .1 .1 .0 .now) (a .1 .1 .1 .1 .1 .1 .0 .now)
       (a .1 .1 .1 .1 .1 .1 .1 .0 .now) (a .1 .1 .1 .1 .1 .1 .1 .1 .0 .now) (a .1 .1 .1 .1 .1 .1 .1 .1 .1 .0 .now) (a .1 .1 .1 .1 .1 .1 .1 .1 .1 .1 .0) (a .1 .1 .1 .1 .1 .1 .1 .1 .1 .1 .1 .0)
@@ -813,15 +810,15 @@ module _ {M : Type 1} (𝓤 : URA M) (H : Heap 𝓤) (A : Atoms 𝓤) (W : Given
       (a .1 .1 .1 .1 .1 .1 .1 .1 .1 .1 .1 .1 .1 .0)
       (are .1 .0 .0 .1) (are .1 .1 .0 .0 .1) (are .1 .1 .1 .0 .0 .1) (are .1 .1 .1 .1 .0 .0 .1) (are .1 .1 .1 .1 .1 .0 .0 .1) (are .1 .1 .1 .1 .1 .1 .0 .0 .1) (are .1 .1 .1 .1 .1 .1 .1 .0 .0 .1)
       (are .1 .1 .1 .1 .1 .1 .1 .1 .0 .0 .1) (are .1 .1 .1 .1 .1 .1 .1 .1 .1 .0 .0 .1) (are .1 .1 .1 .1 .1 .1 .1 .1 .1 .1 .1 .1 .0 .0 .1) (are .0) (are .1 .1 .1 .1 .1 .1 .1 .1 .1 .1 .0)
-      (are .1 .1 .1 .1 .1 .1 .1 .1 .1 .1 .1 .0) (are .1 .1 .1 .1 .1 .1 .1 .1 .1 .1 .1 .1 .1 .0) pre 𝓣 (fmOf 𝓤 H (W .laws) 𝓣) known-message-within known-put-entries known-put-answer))
+      (are .1 .1 .1 .1 .1 .1 .1 .1 .1 .1 .1 .0) (are .1 .1 .1 .1 .1 .1 .1 .1 .1 .1 .1 .1 .1 .0) pre 𝓣 (fmOf 𝓤 H (W .laws) 𝓣) known-entry known-put-entries known-put-answer))
 
 message-text-meets : {M : Type 1} (𝓤 : URA M) (H : Heap 𝓤) (A : Atoms 𝓤) → Given 𝓤 H A → (mem : Memory → SProp 𝓤) (run : Routine → Fun 𝓤) (𝓣 : Tables 𝓤 H)
-    → Triple 𝓤 (𝓣 .C #listing·message-within) (C-message-within 𝓤 H A mem run) → Triple 𝓤 (𝓣 .C #listing·put-entries) (C-put-entries 𝓤 H A mem run)
+    → Triple 𝓤 (𝓣 .C #listing·message) (C-entry 𝓤 H A mem run) → Triple 𝓤 (𝓣 .C #listing·put-entries) (C-put-entries 𝓤 H A mem run)
     → Triple 𝓤 (𝓣 .C #listing·put-answer) (C-put-answer 𝓤 H A mem run)
     → Meets 𝓤 H A self.signature (WpFn 𝓤 H (𝓣 .C) (𝓣 .Λ) code.function) (self.spec 𝓤 H A mem run)
-message-text-meets 𝓤 H A W mem run 𝓣 known-message-within known-put-entries known-put-answer =
+message-text-meets 𝓤 H A W mem run 𝓣 known-entry known-put-entries known-put-answer =
     walk-meets 𝓤 H A self.ended stayed W (goes-none 𝓤 H A W 10 (λ _. B.the-row) yes (λ κs x f. refl), (goes-none-slice 𝓤 H A W 10 (0 ∷ []) tt (plain (λ _. u8)) yes, (goes-none-slice 𝓤 H A W 10 (1 ∷ []) tt (plain (λ _. i64)) yes, (goes-slice 𝓤 H A W 10 2 tt (plain (λ _. u64)), (goes-slice 𝓤 H A W 10 3 tt (plain (λ _. u64)), (goes-slice 𝓤 H A W 10 4 tt (plain (λ _. u64)), (goes-slice 𝓤 H A W 10 5 tt (plain (λ _. u32)), (goes-slice 𝓤 H A W 10 6 tt (plain (λ _. u8)), (goes-slice 𝓤 H A W 10 7 tt (plain (λ _. i64)), (goes-slice 𝓤 H A W 10 8 tt (plain (λ _. i64)), (goes-none 𝓤 H A W 10 (λ _. F.the-row) yes (λ κs x f. refl), (goes-none 𝓤 H A W 10 (λ _. u64) yes (λ κs x f. refl), (goes-slice 𝓤 H A W 10 9 tt (plain (λ _. u8)), (goes-none 𝓤 H A W 10 (λ _. usize) yes (λ κs x f. refl), tt)))))))))))))) (self.clauses 𝓤 H A mem run)
-    (WpFn 𝓤 H (𝓣 .C) (𝓣 .Λ) code.function) (WpFn-mono 𝓤 H (W .laws) 𝓣 code.function) (message-text-walks 𝓤 H A W mem run 𝓣 known-message-within known-put-entries known-put-answer)
+    (WpFn 𝓤 H (𝓣 .C) (𝓣 .Λ) code.function) (WpFn-mono 𝓤 H (W .laws) 𝓣 code.function) (message-text-walks 𝓤 H A W mem run 𝓣 known-entry known-put-entries known-put-answer)
 
 pub message-text-spec : {M : Type 1} → stated.statement M
 unfolding code.routine tablesOf
@@ -829,6 +826,6 @@ message-text-spec 𝓤 H 𝓜 𝓖 𝓡 =
     entered 𝓤 H (tripleOf 𝓤 H (𝓖 .A) self.signature (self.spec 𝓤 H (𝓖 .A) (𝓜 .mem) (𝓡 .run)))
     (tables 𝓤 H 𝓜 𝓡 code.env .C) (tables 𝓤 H 𝓜 𝓡 code.env .Λ) #listing·message-text code.function (code.unfolded 𝓤 H 𝓜 𝓡)
     (message-text-meets 𝓤 H (𝓖 .A) (givenOf 𝓤 H 𝓜 𝓖) (𝓜 .mem) (𝓡 .run) (tablesOf 𝓤 H 𝓜 (tables 𝓤 H 𝓜 𝓡 code.env))
-    (cited 𝓤 H (C-message-within 𝓤 H (𝓖 .A) (𝓜 .mem) (𝓡 .run)) 𝓜 𝓡 code.env #listing·message-within message-within-def.routine code.calls-listing·message-within (message-within-thm.met 𝓤 H 𝓜 𝓖 𝓡))
+    (cited 𝓤 H (C-entry 𝓤 H (𝓖 .A) (𝓜 .mem) (𝓡 .run)) 𝓜 𝓡 code.env #listing·message entry-def.routine code.calls-listing·message (entry-thm.met 𝓤 H 𝓜 𝓖 𝓡))
     (cited 𝓤 H (C-put-entries 𝓤 H (𝓖 .A) (𝓜 .mem) (𝓡 .run)) 𝓜 𝓡 code.env #listing·put-entries put-entries-def.routine code.calls-listing·put-entries (put-entries-thm.met 𝓤 H 𝓜 𝓖 𝓡))
     (cited 𝓤 H (C-put-answer 𝓤 H (𝓖 .A) (𝓜 .mem) (𝓡 .run)) 𝓜 𝓡 code.env #listing·put-answer put-answer-def.routine code.calls-listing·put-answer (put-answer-thm.met 𝓤 H 𝓜 𝓖 𝓡)))
