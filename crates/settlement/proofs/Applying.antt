@@ -59,7 +59,7 @@ appliable w c b r =
 unfoldable pub zeros : List ℤ
 zeros = replicate 1024 (pos 0)
 
-pub zero-at : (n k : ℕ) → getD (replicate n (pos 0)) k (pos 0) ≡ pos 0
+zero-at : (n k : ℕ) → getD (replicate n (pos 0)) k (pos 0) ≡ pos 0
 zero-at zero k = refl
 zero-at (suc n) zero = refl
 zero-at (suc n) (suc k) = zero-at n k

@@ -5,9 +5,8 @@ use mathlib.Core.Path.{_≡_, refl, sym, ap, _∙_}
 use mathlib.Core.Bool.{Bool, true, false, _&&_, cond}
 use mathlib.Core.List.{List, [], _∷_}
 use lib.IntN.{ℤ, pos}
-use lib.ListN.{length, getD, replicate, length-replicate}
+use lib.ListN.{length, getD}
 use lib.Dec.{eqb}
-use native.Mathlib.Nat.{mul-le-mul-right}
 use native.Mathlib.Omega.{arith}
 use mathlib.Core.Logic.{⊎-elim}
 use types.Run.{OneOf}
@@ -23,15 +22,14 @@ use Rattle.rules.specs.World.{Opening, Tables, World, openingOf, tablesOf, worl
 use Rattle.rules.specs.WellFormed.{rowsFit, linesSized, linePlaces, lineRight, linesRight}
 use Rattle.rules.specs.Effects.{told, supplierOf, elementOf, question17}
 use Rattle.rules.proofs.Ranges.{getD-listTo}
-use Rattle.rules.proofs.Parts.{limits}
 use Rattle.posting.specs.Posted.{isReading}
-use Rattle.metering.specs.Hours.{HourRoom, Reread, RereadBoth}
+use Rattle.metering.specs.Hours.{Reread, RereadBoth}
 use Rattle.writing.proofs.Asks.{countable}
 use Rattle.writing.proofs.Counts.{reading-count}
 use Rattle.writing.proofs.Leaves.{written-kept}
-use Rattle.ledger.specs.Added.{addedLines, ByRules, ownAt, ownChanges, ownLines, OwnChanges}
+use Rattle.ledger.specs.Added.{addedLines, ByRules, ownAt, ownChanges, ownLines}
 use Rattle.settlement.specs.Replies.{Appliable, Applied}
-use Rattle.settlement.proofs.Applying.{Rules, fits-is, applied, applied-not, zero-at}
+use Rattle.settlement.proofs.Applying.{Rules, fits-is, applied, applied-not}
 
 -- another body than a reading, as the code tells them apart
 pub other-body : (b : Body) → OneOf (0 ∷ 1 ∷ 2 ∷ 3 ∷ 4 ∷ 6 ∷ 7 ∷ []) (tagOf the-type b) → isReading b ≡ false
@@ -45,10 +43,6 @@ other-body (Reading p d n e) h = absurd (⊎-elim (λ z. omega arith) (⊎-elim 
 other-body (Block p n) h = refl
 other-body Round h = refl
 
--- a table of zeros, one for each element
-pub hours-room : (n k : ℕ) → n ≤ k → HourRoom n 0 (replicate k (pos 0))
-hours-room n k l = record { places = rw length-replicate l; small = λ i b. rw (zero-at k i) (omega arith) }
-
 module _ (o : Opening) (t : Tables) (b : Body) (who : ℕ) where
   own-rules : (m : Measure) (cs : List ℤ) → Reread o t b who m cs → ByRules o t (told o t b) m (ownChanges (o .suppliers) (o .elements) who cs)
   unfolding ownChanges ownAt lineCount supplierOf elementOf
@@ -57,23 +51,10 @@ module _ (o : Opening) (t : Tables) (b : Body) (who : ℕ) where
   reread-rules : (qs vs : List ℤ) → RereadBoth o t b who qs vs → Rules o t b (ownChanges (o .suppliers) (o .elements) who qs) (ownChanges (o .suppliers) (o .elements) who vs)
   reread-rules qs vs r = record { quantity = own-rules Measure.quantity qs (r .quantity); amount = own-rules Measure.amount vs (r .amount) }
 
-  -- what the ledger asks
-  pub own-asked : (ls : List ℤ) → Appliable o t ls b → (qs vs : List ℤ) → RereadBoth o t b who qs vs → 64 ≡ length qs → 64 ≡ length vs → OwnChanges (o .suppliers) (o .elements) who ls qs vs
-  unfolding lineCount linesSized linePlaces linesRight
-  own-asked ls g qs vs r q v =
-      let l = limits o (g .limited) in
-      let m = mul-le-mul-right (o .elements) (l .suppliers) in
-      record {
-        supplier-high = r .payer;
-        few = omega (arith, l .elements);
-        some = g .postable .whole .some-element;
-        lines = eqb-true (length ls) (o .suppliers * o .elements * 3) (g .sized);
-        right = g .right;
-        quantities = omega (arith, l .elements);
-        amounts = omega (arith, l .elements);
-        quantity = r .quantity .small;
-        amount = r .amount .small;
-      }
+-- what the lines are asked
+pub lines-asked : (o : Opening) (t : Tables) (b : Body) (ls : List ℤ) → Appliable o t ls b → (length ls ≡ o .suppliers * o .elements * 3) × (allTo (λ k. lineRight ls (k * 3)) (o .suppliers * o .elements) ≡ true)
+unfolding lineCount linesSized linePlaces linesRight
+lines-asked o t b ls g = (eqb-true (length ls) (o .suppliers * o .elements * 3) (g .sized), g .right)
 
 module _ (b : Book) (ds : List ℕ) (ps : List ℤ) (ls hs ss rs bs : List ℕ) (lines ts : List ℤ) (p d h n : ℕ)
     (g : Appliable (openingOf b ds ps) (tablesOf b ls hs ss rs bs) lines (Reading p d h n)) (who : ℕ) (qs vs : List ℤ)

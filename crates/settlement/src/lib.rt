@@ -23,11 +23,10 @@ use book::check_book;
 use intake::Understood;
 use intake::understand;
 use ledger::commit_lines;
-use ledger::commit_own;
 use ledger::lines_fit;
 use messages::decide;
 use messages::number;
-use metering::post_reading;
+use metering::settle_reading;
 use posting::post;
 use rounds::copy_lines;
 use rounds::moved_lines;
@@ -152,8 +151,8 @@ fn apply_lines(
     }
 }
 
-// Message 6: the changes of the lines of the supplier who pays, question 17, then those lines and the reading. Cost: linear in the elements
-// and the point's rows, logarithmic in the other rows.
+// Message 6: question 17 of the lines of the supplier who pays, then those lines and the reading. Cost: linear in the point's rows,
+// logarithmic in the other rows.
 fn apply_reading(
     book: Book,
     element_data: &[u8],
@@ -172,11 +171,7 @@ fn apply_reading(
     requires { ⌜ Appliable (openingOf book (now element_data) (now prices)) (tablesOf book (now links) (now holders) (now states) (now readings) (now blocks)) (now lines) (Reading point day hour energy) ⌝ }
     ensures { λ r. ⌜ ((ts : List ℤ) → Applied (worldOf book (now (element_data .entry)) (now (prices .entry)) (now (links .entry)) (now (holders .entry)) (now (states .entry)) (now (readings .entry)) (now (blocks .entry)) (now (lines .entry)) ts) (worldOf (r .book) (now (element_data .entry)) (now (prices .entry)) (now (links .entry)) (now (holders .entry)) (now (states .entry)) (now (readings .exit)) (now (blocks .entry)) (now (lines .exit)) ts) (Reading point day hour energy) (numberOf (r .answer))) × (r .records ≡ 0) ⌝ }
 {
-    let mut quantities = [0i64; 64];
-    let mut amounts = [0i64; 64];
-    let payer = post_reading(
-        &mut quantities,
-        &mut amounts,
+    if settle_reading(
         book,
         element_data,
         prices,
@@ -185,12 +180,12 @@ fn apply_reading(
         states,
         readings,
         blocks,
+        lines,
         point,
         day,
         hour,
         energy,
-    );
-    if commit_own(book, lines, &quantities, &amounts, payer) {
+    ) {
         write_reading(book, readings, point, day, hour, energy);
         accepted(book, 0)
     } else {
