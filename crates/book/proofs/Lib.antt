@@ -1,2 +1,2 @@
--- Laws of questions 2 to 5, for the proofs of this crate and for callers.
-pub mod Passes
+-- Laws that the proofs of this crate cite.
+pub mod Measures

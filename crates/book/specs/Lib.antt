@@ -1,2 +1,2 @@
--- What a lent book has once questions 2 and 3 passed, and what is answered of a message up to question 16.
-pub mod Measured
+-- What the functions of this crate ask.
+pub mod Lengths

@@ -1,35 +1,38 @@
-// Questions 2 to 5 of whatever is lent as a book: any numbers, slices of any length, any words. And questions 2 to 16 of any
-// fields. Products are computed only where question 2 has passed.
+// Questions 2 to 5 of whatever is lent as a book: any numbers, slices of any length, any words.
+// Products are computed only where question 2 has passed.
 ghost use mathlib.Core.Path.{_≡_};
 ghost use mathlib.Core.Bool.{_&&_};
-ghost use mathlib.Core.List.{List};
-ghost use Prim.Native.Nat.{ℕ, _*_, _≤_};
-ghost use lib.Dec.{leb};
-ghost use lib.IntN.{ℤ};
+ghost use Prim.Native.Nat.{_*_, _≤_};
+ghost use lib.Dec.{leb, eqb};
 ghost use lib.ListN.{length};
-ghost use Rattle.rules.specs.Basics.{within, allIn};
-ghost use Rattle.rules.specs.World.{openingOf, tablesOf, worldOf};
-ghost use Rattle.rules.specs.WellFormed.{withinLimits, rowsFit, openingSized, tablesSized, linesSized, tablesRight, linesRight, question3, question5};
+ghost use Rattle.rules.specs.Basics.{allIn};
+ghost use Rattle.rules.specs.Sizes.{elementSize, mostEnergy};
+ghost use Rattle.rules.specs.WellFormed.{tablesRight, question3, question5};
 ghost use Rattle.rules.specs.Effects.{askBook};
 ghost use Rattle.rules.specs.Opening.{openingAnswer};
 ghost use Rattle.rules.specs.Answers.{numberOf};
-ghost use Rattle.rules.proofs.Parts.{Limits};
-ghost use Rattle.book.specs.Measured.{Measured, judged};
+ghost use Rattle.rules.specs.Whole.{Limits};
+ghost use Rattle.rules.specs.Lent.{Lists, worldIn, openingIn, tablesIn, lent, lendData, lendElements, lendTables, was};
+ghost use Rattle.book.specs.Lengths.{lengthsOf, Measured};
 use calendar::days_in_month;
-use intake::Understood;
-use intake::all_three;
-use intake::is_within;
-use intake::understand;
-use messages::decide;
-use messages::number;
+use ledger::lines::lines_right;
 use pricing::elements_right;
-use pricing::lines_right;
+use pricing::is_within;
 use rules::Answer;
 use rules::Book;
-use rules::Fields;
+use rules::ELEMENT_SIZE;
+use rules::HOUR_PLACES;
+use rules::LINE_SIZE;
+use rules::MOST_ENERGY;
+use rules::PLACES;
+use rules::PRICE_PLACES;
 use tables::holders_right;
 use tables::links_right;
 use tables::states_right;
+use validation::fields::all_three;
+use validation::limits::is_limited;
+use validation::limits::rows_fit;
+use validation::questions::number;
 
 fn both(first: bool, second: bool) -> bool
     ensures { λ r. ⌜ r ≡ first && second ⌝ }
@@ -37,138 +40,60 @@ fn both(first: bool, second: bool) -> bool
     if first { second } else { false }
 }
 
-// ---- question 2
-
-fn counts_limited(book: Book) -> bool
-    ensures { λ r. ⌜ r ≡ within 1 256 (book .points) && (within 1 16 (book .suppliers) && within 1 64 (book .elements)) ⌝ }
-{
-    all_three(
-        is_within(1, 256, book.points),
-        is_within(1, 16, book.suppliers),
-        is_within(1, 64, book.elements),
-    )
-}
-
-// The month is one of the calendar, and every count within its limit.
-fn is_limited(book: Book) -> bool
-    ensures { λ r. ⌜ ((ds : List ℕ) (ps : List ℤ) → r ≡ withinLimits (openingOf book ds ps)) ⌝ }
-{
-    all_three(
-        is_within(2000, 2099, book.year),
-        is_within(1, 12, book.month),
-        counts_limited(book),
-    )
-}
-
-// So are the rows in use.
-fn rows_fit(book: Book) -> bool
-    ensures { λ r. ⌜ ((ls hs ss rs bs : List ℕ) → r ≡ rowsFit (tablesOf book ls hs ss rs bs)) ⌝ }
-{
-    all_three(
-        book.periods <= 1024,
-        book.holders <= 1024,
-        book.states <= 1024,
-    )
-}
-
 // ---- question 3
 
-// 3 bytes and 24 prices for each element.
-fn opening_sized(book: Book, element_data: &[u8], prices: &[i64]) -> bool
-    requires { ⌜ book .elements ≤ 64 ⌝ }
-    ensures { λ r. ⌜ r ≡ openingSized (openingOf book (now (element_data .entry)) (now (prices .entry))) ⌝ }
+// The lengths of all that is lent.
+pub struct Lengths {
+    pub element_data: usize,
+    pub prices: usize,
+    pub links: usize,
+    pub holders: usize,
+    pub states: usize,
+    pub readings: usize,
+    pub blocks: usize,
+    pub lines: usize,
+    pub sent: usize,
+}
+
+// Each lent table has its exact length: 3 bytes and 24 prices for each element, 1,024 places for each table of rows, 24 readings for each
+// point and day, a block for each point, three numbers for each supplier and element, twice.
+fn is_sized(book: Book, lengths: Lengths) -> bool
+    requires { ⌜ ((o : Lists) → Limits (openingIn book o)) ⌝ }
+    ensures { λ r. ⌜ ((o : Lists) → lengthsOf o ≡ lengths → r ≡ question3 (worldIn book o)) ⌝ }
 {
     let elements = book.elements as usize;
-    both(
-        element_data.len() == elements * 3,
-        prices.len() == elements * 24,
-    )
-}
-
-// 1,024 places for each table of rows, 24 readings for each point and day, a block for each point.
-fn tables_sized(
-    book: Book,
-    links: &[u64],
-    holders: &[u64],
-    states: &[u64],
-    readings: &[u32],
-    blocks: &[u8],
-) -> bool
-    requires { ⌜ ((ds : List ℕ) (ps : List ℤ) → Limits (openingOf book ds ps)) ⌝ }
-    ensures { λ r. ⌜ ((ds : List ℕ) (ps : List ℤ) → r ≡ tablesSized (openingOf book ds ps) (tablesOf book (now (links .entry)) (now (holders .entry)) (now (states .entry)) (now (readings .entry)) (now (blocks .entry)))) ⌝ }
-{
     let points = book.points as usize;
     let days = days_in_month(book.year, book.month) as usize;
-    let rest = all_three(
-        states.len() == 1024,
-        readings.len() == points * days * 24,
-        blocks.len() == points,
-    );
-    all_three(links.len() == 1024, holders.len() == 1024, rest)
-}
-
-// Three numbers for each supplier and element, twice.
-fn lines_sized(book: Book, lines: &[i64], sent: &[i64]) -> bool
-    requires { ⌜ (book .suppliers ≤ 16) × (book .elements ≤ 64) ⌝ }
-    ensures { λ r. ⌜ ((ds : List ℕ) (ps : List ℤ) → r ≡ linesSized (openingOf book ds ps) (now (lines .entry)) && linesSized (openingOf book ds ps) (now (sent .entry))) ⌝ }
-{
-    let count = book.suppliers as usize * book.elements as usize * 3;
-    both(lines.len() == count, sent.len() == count)
-}
-
-// Each lent table has its exact length.
-fn is_sized(
-    book: Book,
-    element_data: &[u8],
-    prices: &[i64],
-    links: &[u64],
-    holders: &[u64],
-    states: &[u64],
-    readings: &[u32],
-    blocks: &[u8],
-    lines: &[i64],
-    sent: &[i64],
-) -> bool
-    requires { ⌜ ((ds : List ℕ) (ps : List ℤ) → Limits (openingOf book ds ps)) ⌝ }
-    ensures { λ r. ⌜ r ≡ question3 (worldOf book (now (element_data .entry)) (now (prices .entry)) (now (links .entry)) (now (holders .entry)) (now (states .entry)) (now (readings .entry)) (now (blocks .entry)) (now (lines .entry)) (now (sent .entry))) ⌝ }
-{
+    let count = book.suppliers as usize * elements * LINE_SIZE;
     all_three(
-        opening_sized(book, element_data, prices),
-        tables_sized(book, links, holders, states, readings, blocks),
-        lines_sized(book, lines, sent),
+        both(
+            lengths.element_data == elements * ELEMENT_SIZE,
+            lengths.prices == elements * PRICE_PLACES,
+        ),
+        all_three(
+            lengths.links == PLACES,
+            lengths.holders == PLACES,
+            all_three(
+                lengths.states == PLACES,
+                lengths.readings == points * days * HOUR_PLACES,
+                lengths.blocks == points,
+            ),
+        ),
+        both(lengths.lines == count, lengths.sent == count),
     )
 }
 
 // ---- questions 2 to 4
 
 // The first of questions 2 to 4 that says no.
-fn check_elements(
-    book: Book,
-    element_data: &[u8],
-    prices: &[i64],
-    links: &[u64],
-    holders: &[u64],
-    states: &[u64],
-    readings: &[u32],
-    blocks: &[u8],
-    lines: &[i64],
-    sent: &[i64],
-) -> Answer
-    ensures { λ r. ⌜ numberOf r ≡ openingAnswer (worldOf book (now (element_data .entry)) (now (prices .entry)) (now (links .entry)) (now (holders .entry)) (now (states .entry)) (now (readings .entry)) (now (blocks .entry)) (now (lines .entry)) (now (sent .entry))) ⌝ }
+pub fn check_opening(book: Book, element_data: &[u8], prices: &[i64], lengths: Lengths) -> Answer
+    requires { ⌜ ((o : Lists) × (lengthsOf (lendElements (now element_data) (now prices) o) ≡ lengths)) ⌝ }
+    ensures { λ r. ⌜ ((o : Lists) →
+        let t = lendElements (was element_data) (was prices) o in
+        lengthsOf t ≡ lengths → numberOf r ≡ openingAnswer (worldIn book t)) ⌝ }
 {
     if both(is_limited(book), rows_fit(book)) {
-        if is_sized(
-            book,
-            element_data,
-            prices,
-            links,
-            holders,
-            states,
-            readings,
-            blocks,
-            lines,
-            sent,
-        ) {
+        if is_sized(book, lengths) {
             if elements_right(book, element_data, prices) {
                 Answer::Accepted
             } else {
@@ -186,11 +111,11 @@ fn check_elements(
 
 // Every reading is 0 to 9,999,999 Wh. Linear.
 fn readings_right(readings: &[u32]) -> bool
-    ensures { λ r. ⌜ r ≡ allIn (λ x. leb x 9999999) (now (readings .entry)) ⌝ }
+    ensures { λ r. ⌜ r ≡ allIn (λ x. leb x mostEnergy) (was readings) ⌝ }
 {
     let mut i = 0;
     while i < readings.len() {
-        if readings[i] <= 9999999 {
+        if readings[i] <= MOST_ENERGY as u32 {
             i += 1;
         } else {
             return false;
@@ -201,7 +126,7 @@ fn readings_right(readings: &[u32]) -> bool
 
 // Every block mark is 0 or 1. Linear.
 fn blocks_right(blocks: &[u8]) -> bool
-    ensures { λ r. ⌜ r ≡ allIn (λ x. leb x 1) (now (blocks .entry)) ⌝ }
+    ensures { λ r. ⌜ r ≡ allIn (λ x. leb x 1) (was blocks) ⌝ }
 {
     let mut i = 0;
     while i < blocks.len() {
@@ -224,9 +149,13 @@ fn tables_right(
     readings: &[u32],
     blocks: &[u8],
 ) -> bool
-    requires { ⌜ length (now element_data) ≡ book .elements * 3 ⌝ }
-    requires { ⌜ (book .periods ≤ length (now links)) × ((book .holders ≤ length (now holders)) × (book .states ≤ length (now states))) ⌝ }
-    ensures { λ r. ⌜ ((ps : List ℤ) → r ≡ tablesRight (openingOf book (now (element_data .entry)) ps) (tablesOf book (now (links .entry)) (now (holders .entry)) (now (states .entry)) (now (readings .entry)) (now (blocks .entry)))) ⌝ }
+    requires { ⌜ length (now element_data) ≡ book .elements * elementSize ⌝ }
+    requires { ⌜ (book .periods ≤ length (now links)) × (book .holders ≤ length (now holders))
+        × (book .states ≤ length (now states)) ⌝ }
+    ensures { λ r. ⌜ ((o : Lists) →
+        let t = lendData (was element_data)
+        (lendTables (was links) (was holders) (was states) (was readings) (was blocks) (o .lines) (o .sent) o) in
+        r ≡ tablesRight (openingIn book t) (tablesIn book t)) ⌝ }
 {
     let periods = book.periods as usize;
     let held = book.holders as usize;
@@ -247,7 +176,6 @@ fn tables_right(
 fn is_right(
     book: Book,
     element_data: &[u8],
-    prices: &[i64],
     links: &[u64],
     holders: &[u64],
     states: &[u64],
@@ -256,8 +184,12 @@ fn is_right(
     lines: &[i64],
     sent: &[i64],
 ) -> bool
-    requires { ⌜ Measured (worldOf book (now element_data) (now prices) (now links) (now holders) (now states) (now readings) (now blocks) (now lines) (now sent)) ⌝ }
-    ensures { λ r. ⌜ r ≡ question5 (worldOf book (now (element_data .entry)) (now (prices .entry)) (now (links .entry)) (now (holders .entry)) (now (states .entry)) (now (readings .entry)) (now (blocks .entry)) (now (lines .entry)) (now (sent .entry))) ⌝ }
+    requires { ⌜ ((o : Lists) × Measured book (lendData (now element_data)
+        (lendTables (now links) (now holders) (now states) (now readings) (now blocks) (now lines) (now sent) o))) ⌝ }
+    ensures { λ r. ⌜ ((o : Lists) →
+        let t = lendData (was element_data)
+        (lendTables (was links) (was holders) (was states) (was readings) (was blocks) (was lines) (was sent) o) in
+        r ≡ question5 (worldIn book t)) ⌝ }
 {
     let count = book.suppliers as usize * book.elements as usize;
     all_three(
@@ -267,9 +199,9 @@ fn is_right(
     )
 }
 
-// ---- the entry points
+// ---- questions 2 to 5
 
-// Questions 2 to 5 of a book: the first that says no.
+// The first of them that says no. Linear in what is lent.
 pub fn check_book(
     book: Book,
     element_data: &[u8],
@@ -282,25 +214,25 @@ pub fn check_book(
     lines: &[i64],
     sent: &[i64],
 ) -> Answer
-    ensures { λ r. ⌜ numberOf r ≡ askBook (worldOf book (now (element_data .entry)) (now (prices .entry)) (now (links .entry)) (now (holders .entry)) (now (states .entry)) (now (readings .entry)) (now (blocks .entry)) (now (lines .entry)) (now (sent .entry))) 0 ⌝ }
+    ensures { λ r. ⌜ (let t = lent element_data prices links holders states readings blocks lines sent in
+        numberOf r ≡ askBook (worldIn book (t .entry)) 0) ⌝ }
 {
-    let opening = check_elements(
-        book,
-        element_data,
-        prices,
-        links,
-        holders,
-        states,
-        readings,
-        blocks,
-        lines,
-        sent,
-    );
+    let lengths = Lengths {
+        element_data: element_data.len(),
+        prices: prices.len(),
+        links: links.len(),
+        holders: holders.len(),
+        states: states.len(),
+        readings: readings.len(),
+        blocks: blocks.len(),
+        lines: lines.len(),
+        sent: sent.len(),
+    };
+    let opening = check_opening(book, element_data, prices, lengths);
     if number(opening) == 0 {
         if is_right(
             book,
             element_data,
-            prices,
             links,
             holders,
             states,
@@ -315,98 +247,5 @@ pub fn check_book(
         }
     } else {
         opening
-    }
-}
-
-// Questions 2 to 4 of an opening: the first that says no. No row is in use, and the fixing comes next.
-pub fn check_opening(
-    year: u64,
-    month: u64,
-    points: u64,
-    suppliers: u64,
-    elements: u64,
-    element_data: &[u8],
-    prices: &[i64],
-    links: &[u64],
-    holders: &[u64],
-    states: &[u64],
-    readings: &[u32],
-    blocks: &[u8],
-    lines: &[i64],
-    sent: &[i64],
-) -> Answer
-    ensures { λ r. ⌜ numberOf r ≡ openingAnswer (worldOf (record { year = year; month = month; points = points; suppliers = suppliers; elements = elements; periods = 0; holders = 0; states = 0; round = 1 }) (now (element_data .entry)) (now (prices .entry)) (now (links .entry)) (now (holders .entry)) (now (states .entry)) (now (readings .entry)) (now (blocks .entry)) (now (lines .entry)) (now (sent .entry))) ⌝ }
-{
-    let book = Book {
-        year: year,
-        month: month,
-        points: points,
-        suppliers: suppliers,
-        elements: elements,
-        periods: 0,
-        holders: 0,
-        states: 0,
-        round: 1,
-    };
-    check_elements(
-        book,
-        element_data,
-        prices,
-        links,
-        holders,
-        states,
-        readings,
-        blocks,
-        lines,
-        sent,
-    )
-}
-
-// Questions 2 to 16 of any book and any fields: the first that says no.
-pub fn judge(
-    book: Book,
-    element_data: &[u8],
-    prices: &[i64],
-    links: &[u64],
-    holders: &[u64],
-    states: &[u64],
-    readings: &[u32],
-    blocks: &[u8],
-    lines: &[i64],
-    sent: &[i64],
-    fields: Fields,
-) -> Answer
-    ensures { λ r. ⌜ numberOf r ≡ judged (worldOf book (now (element_data .entry)) (now (prices .entry)) (now (links .entry)) (now (holders .entry)) (now (states .entry)) (now (readings .entry)) (now (blocks .entry)) (now (lines .entry)) (now (sent .entry))) fields ⌝ }
-{
-    let checked = check_book(
-        book,
-        element_data,
-        prices,
-        links,
-        holders,
-        states,
-        readings,
-        blocks,
-        lines,
-        sent,
-    );
-    if number(checked) == 0 {
-        let understood = understand(book.suppliers, fields);
-        let Understood::Passed(m) = understood else {
-            return Answer::OutOfRange;
-        };
-        decide(
-            book,
-            element_data,
-            prices,
-            links,
-            holders,
-            states,
-            readings,
-            blocks,
-            m,
-        )
-    } else {
-        checked
     }
 }

@@ -1,10 +1,10 @@
--- First days by arithmetic: 365 days a year and one more for each leap year before, and the days of the months before, which 367 twelfths of a day a month
--- give but for February. One test, which antt computes over the 1,200 months, says that each step is a month's days. Assumes nothing.
+-- First days by arithmetic: 365 days a year and one more for each leap year before, and the days of the months before, which 367 twelfths
+-- of a day a month give but for February. One test, which antt computes over the 1,200 months, says that each step is a month's days.
+-- Assumes nothing.
 use mathlib.Core.Path.{_≡_, refl, sym, ap, _∙_}
 use mathlib.Core.Bool.{Bool, true, false, not, _&&_, _||_, cond, and-true}
 use Prim.Native.Nat.{ℕ, zero, suc, _+_, _-_, _*_, _/_, _%_, _≤_, _<_}
 use native.Mathlib.Omega.{arith}
-use native.Mathlib.Numerals.{add-one}
 use lib.Dec.{T, eqb, ltb, eqb→eq}
 use borrow.Author.Tests.{eqb-true, eqb-false, ne-eqb}
 use Rattle.calendar.specs.Gregorian.{isLeap, hasThirty, daysOfMonth, daysAfter, firstOf, monthNumber, firstDay, InRange}
@@ -29,18 +29,21 @@ summed y m = y * 365 + (y + 3) / 4 + (m * 367 + 5) / 12
 abbrev formula : ℕ → ℕ
 formula n = summed (n / 12) (n % 12) - shortened (n / 12) (n % 12)
 
--- each step up to n is a month's days
+-- one step is a month's days, and so is each up to n
+abbrev step : ℕ → Bool
+step n = eqb (formula (suc n)) (formula n + daysAfter n)
+
 steps : ℕ → Bool
 steps zero = true
-steps (suc n) = eqb (formula (suc n)) (formula n + daysAfter n) && steps n
+steps (suc n) = step n && steps n
 
 step-at : (n k : ℕ) → T (steps n) → k < n → formula (suc k) ≡ formula k + daysAfter k
 unfolding steps
 step-at zero k t l = absurd (omega arith)
-step-at (suc n) k t l = go (eqb k n) refl (λ b. step-at n k (both-right (eqb (formula (suc n)) (formula n + daysAfter n)) (steps n) t) b)
+step-at (suc n) k t l = go (eqb k n) refl (λ b. step-at n k (both-right (step n) (steps n) t) b)
   where
     go : (b : Bool) → eqb k n ≡ b → (k < n → formula (suc k) ≡ formula k + daysAfter k) → formula (suc k) ≡ formula k + daysAfter k
-    go true e before = rw (eqb-true k n e) (eqb→eq (formula (suc n)) (formula n + daysAfter n) (both-left (eqb (formula (suc n)) (formula n + daysAfter n)) (steps n) t))
+    go true e before = rw (eqb-true k n e) (eqb→eq (formula (suc n)) (formula n + daysAfter n) (both-left (step n) (steps n) t))
     go false e before = before (omega (arith, eqb-false k n e))
 
 all-steps : T (steps 1200)
@@ -53,9 +56,10 @@ formula-is zero l = unfold isLeap in refl
 formula-is (suc k) l = step-at 1200 k all-steps (omega arith) ∙ ap (λ (d : ℕ). d + daysAfter k) (formula-is k (omega arith))
 
 -- as the code counts
-pub first-by : (year month : ℕ) → InRange year month → summed (year - 2000) (month - 1) - cond (ltb (month - 1) 2) 0 (cond (isLeap year) 1 2) ≡ firstDay year month
+pub first-by : {year month : ℕ} → InRange year month
+    → summed (year - 2000) (month - 1) - cond (ltb (month - 1) 2) 0 (cond (isLeap year) 1 2) ≡ firstDay year month
 unfolding firstDay
-first-by year month r =
+first-by {year} {month} r =
     let n = monthNumber year month in
     let y : n / 12 ≡ year - 2000 = omega (arith, r .first-year, r .january, r .december) in
     let m : n % 12 ≡ month - 1 = omega (arith, r .first-year, r .january, r .december) in

@@ -18,11 +18,12 @@ both-right true b t = t
 both-right false b t = absurd t
 
 -- the list begins with the day first, which is that of the month n, and goes on as the rule says
-abbrev pub holds : ℕ → ℕ → List ℕ → Bool
+abbrev pub holds : (n first : ℕ) → (days : List ℕ) → Bool
 holds n first [] = true
 holds n first (day ∷ days) = eqb day first && holds (suc n) (day + daysAfter n) days
 
-from : (n first : ℕ) (days : List ℕ) → first ≡ firstOf n → T (holds n first days) → (k : ℕ) → k < length days → getD days k 0 ≡ firstOf (n + k)
+from : (n first : ℕ) (days : List ℕ) → first ≡ firstOf n → T (holds n first days)
+    → (k : ℕ) → k < length days → getD days k 0 ≡ firstOf (n + k)
 unfolding firstOf
 from n first [] e t k h = absurd (not-suc-le-zero h)
 from n first (day ∷ days) e t zero h =

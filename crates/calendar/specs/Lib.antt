@@ -1,3 +1,2 @@
--- The Gregorian rule of months, and what follows from it.
+-- The Gregorian rule of months.
 pub mod Gregorian
-pub mod MonthLaws

@@ -1,7 +1,11 @@
 // The months of the years 2000 to 2099 as days: day 0 is 1 January 2000, and day 36,524 is 31 December 2099.
 ghost use mathlib.Core.Path.{_≡_};
 ghost use Prim.Native.Nat.{_≤_, _<_};
-ghost use Rattle.calendar.specs.Gregorian.{isLeap, hasThirty, daysOfMonth, firstOf, firstDay, monthNumber, InRange};
+ghost use Rattle.calendar.specs.Gregorian.{firstYear, lastYear, listedMonths, isLeap, hasThirty, daysOfMonth, firstOf, firstDay, monthNumber, InRange};
+
+const FIRST_YEAR: u64 = 2000;
+
+const YEAR_MONTHS: u64 = 12;
 
 // The first days of the 1,200 months, and behind them the day after the last.
 const FIRST_DAYS: [u64; 1201] = [
@@ -1210,7 +1214,7 @@ const FIRST_DAYS: [u64; 1201] = [
 
 // The first day of the month that lies `number` months after January 2000.
 fn first_of(number: usize) -> u64
-    requires { ⌜ number < 1201 ⌝ }
+    requires { ⌜ number < listedMonths ⌝ }
     ensures { λ r. ⌜ r ≡ firstOf number ⌝ }
 {
     FIRST_DAYS[number]
@@ -1221,7 +1225,7 @@ fn month_number(year: u64, month: u64) -> usize
     requires { ⌜ InRange year month ⌝ }
     ensures { λ r. ⌜ r ≡ monthNumber year month ⌝ }
 {
-    ((year - 2000) * 12 + (month - 1)) as usize
+    ((year - FIRST_YEAR) * YEAR_MONTHS + (month - 1)) as usize
 }
 
 // The first day of a month, 1 to 12, of a year, as the table has it. Linear in the table, which is laid out at each use.
@@ -1236,7 +1240,7 @@ pub fn listed_first_day(year: u64, month: u64) -> u64
 
 // Each fourth year from 2000 to 2099 is a leap year.
 fn is_leap(year: u64) -> bool
-    requires { ⌜ (2000 ≤ year) × (year ≤ 2099) ⌝ }
+    requires { ⌜ (firstYear ≤ year) × (year ≤ lastYear) ⌝ }
     ensures { λ r. ⌜ r ≡ isLeap year ⌝ }
 {
     year % 4 == 0
@@ -1258,7 +1262,7 @@ pub fn first_day(year: u64, month: u64) -> u64
     requires { ⌜ InRange year month ⌝ }
     ensures { λ r. ⌜ r ≡ firstDay year month ⌝ }
 {
-    let years = year - 2000;
+    let years = year - FIRST_YEAR;
     let months = month - 1;
     let days = years * 365 + (years + 3) / 4 + (months * 367 + 5) / 12;
     if months < 2 {

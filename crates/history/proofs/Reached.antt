@@ -1,5 +1,5 @@
--- A run from an opened book is the run that demand 3 speaks of. By the function's promise and the proof of demand 3; the records are read back from the
--- list number by number.
+-- A run from an opened book is the run that demand 3 speaks of. By the function's promise and the proof of demand 3; the records are read
+-- back from the list number by number.
 use Prim.Native.Nat.{ℕ, _*_}
 use mathlib.Core.Path.{_≡_, refl, sym, ap, ap₂, subst, _∙_}
 use mathlib.Core.List.{List, [], _∷_, _++_, append-assoc}
@@ -15,7 +15,7 @@ use Rattle.rules.specs.Opening.{openingAnswer, opened}
 use Rattle.rules.specs.Queries.{lineQuery, named}
 use Rattle.rules.specs.Claim.{Event, advanceAll, begin, reached, total}
 use Rattle.rules.proofs.Demand3.{demand3}
-use Rattle.rounds.specs.RecordNumbers.{sixOf, numbersOf, numbersAfter}
+use Rattle.ledger.specs.RecordNumbers.{recordNumbers, numbersOf, numbersAfter}
 use Rattle.settlement.specs.Replies.{roomIn}
 use Rattle.history.specs.Runs.{lentWith, eventsFrom, answersTo, Followed}
 use Rattle.history.specs.FromOpening.{recordsIn, eventsOf, FromOpening}
@@ -24,7 +24,7 @@ use Rattle.history.proofs.Turns.{left, events-more, answers-more, lengt
 -- ---- records read back from the list
 
 records-read : (rs : List Record) (rest : List ℤ) → recordsIn (length rs) (numbersOf rs ++ rest) ≡ rs
-unfolding recordsIn numbersOf sixOf
+unfolding recordsIn numbersOf recordNumbers
 records-read [] rest = refl
 records-read (r ∷ rs) rest = ap (λ (l : List Record). r ∷ l) (records-read rs rest)
 
@@ -76,7 +76,8 @@ module _ (w after : World) (fs : List Fields) (count : ℕ) (lent out : List ℤ
         rounds = rounds-add;
       }
 
--- For callers: a run whose promise starts from the book that an accepted opening leaves has demand 3, with the world and the records that it returns.
+-- For callers: a run whose promise starts from the book that an accepted opening leaves has demand 3, with the world and the records that
+-- it returns.
 pub run-from-opening : (w start after : World) (fs : List Fields) (count : ℕ) (lent out : List ℤ) (table answered : List ℕ)
     → openingAnswer w ≡ 0 → start ≡ opened w → Followed start after fs count lent out table answered → FromOpening w after fs count lent out answered
 run-from-opening w start after fs count lent out table answered a e g = from-opened w after fs count lent out table answered a (rw e at g)

@@ -1,5 +1,5 @@
--- One message more: the rules' run goes on by one event, the records by those of the message, the answers by its answer. A message never writes more
--- records than it has room for, so the places left are those at the start less the records so far.
+-- One message more: the rules' run goes on by one event, the records by those of the message, the answers by its answer. A message never
+-- writes more records than it has room for, so the places left are those at the start less the records so far.
 use Prim.Native.Nat.{ℕ, suc, _+_, _-_, _*_, _/_, _≤_, _<_}
 use mathlib.Core.Path.{_≡_, refl, sym, ap, ap₂, subst, _∙_}
 use mathlib.Core.List.{List, [], _∷_, _++_, append-assoc}
@@ -20,7 +20,8 @@ use Rattle.rules.specs.Effects.{written, question17, question18, answer, accept
 use Rattle.rules.specs.Claim.{Event, History, advance, advanceAll, begin}
 use Rattle.rules.proofs.Passed.{asked-passed, behind, taken}
 use Rattle.rules.proofs.Ranges.{length-listTo}
-use Rattle.rounds.specs.RecordNumbers.{numbersOf, numbersAfter, sixOf, length-numbers, length-after, numbers-none}
+use Rattle.ledger.specs.RecordNumbers.{numbersOf, numbersAfter, recordNumbers}
+use Rattle.ledger.proofs.RecordNumbers.{length-numbers, length-after, numbers-none}
 use Rattle.settlement.specs.declared.Reply.{Reply}
 use Rattle.settlement.specs.Replies.{roomIn, Replied}
 use Rattle.history.specs.Runs.{fieldsOf, messagesOf, anyRecord, lentWith, eventsFrom, runFrom, answersTo, Followed}
@@ -106,7 +107,7 @@ length-answers w (f ∷ fs) room u = ap suc (length-answers (step w f room) fs _
 numbers-append : (rs ss : List Record) → numbersOf (rs ++ ss) ≡ numbersOf rs ++ numbersOf ss
 unfolding numbersOf
 numbers-append [] ss = refl
-numbers-append (r ∷ rs) ss = ap (λ (l : List ℤ). sixOf r ++ l) (numbers-append rs ss) ∙ sym (append-assoc (sixOf r) (numbersOf rs) (numbersOf ss))
+numbers-append (r ∷ rs) ss = ap (λ (l : List ℤ). recordNumbers r ++ l) (numbers-append rs ss) ∙ sym (append-assoc (recordNumbers r) (numbersOf rs) (numbersOf ss))
 
 module _ (rs ss : List Record) (lent : List ℤ) (n : ℕ) (e : n ≡ length rs) where
   front : take (n * 6) (numbersAfter rs lent) ≡ numbersOf rs

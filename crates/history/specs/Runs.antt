@@ -10,7 +10,7 @@ use Rattle.rules.specs.Basics.{listTo}
 use Rattle.rules.specs.World.{World}
 use Rattle.rules.specs.Effects.{answer, step, recordsOf}
 use Rattle.rules.specs.Claim.{Event, History, advanceAll, begin}
-use Rattle.rounds.specs.RecordNumbers.{numbersAfter}
+use Rattle.ledger.specs.RecordNumbers.{numbersAfter}
 use Rattle.settlement.specs.Replies.{roomIn}
 
 -- ---- messages as numbers
@@ -40,7 +40,8 @@ messagesOf inputs n = listTo (fieldsOf inputs) n
 unfoldable pub anyRecord : Record
 anyRecord = record { kind = 0; supplier = 0; element = 0; quantity = pos 0; kroner = pos 0; billionths = 0 }
 
--- a message and a list with room for so many records. Of the list the rules read nothing but its length, so any list of that length would do.
+-- a message and a list with room for so many records. Of the list the rules read nothing but its length, so any list of that length would
+-- do.
 unfoldable pub lentWith : Fields → ℕ → Event
 lentWith f room = record { fields = f; lent = replicate room anyRecord }
 
@@ -60,7 +61,8 @@ answersTo w (v ∷ vs) = answer w (v .fields) (length (v .lent)) ∷ answersTo (
 
 -- ---- the promise
 
--- the world, the list of records as numbers, how many records there are, and the table of answers, of which places past the last stay as lent
+-- the world, the list of records as numbers, how many records there are, and the table of answers, of which places past the last stay as
+-- lent
 pub record Followed (w after : World) (fs : List Fields) (count : ℕ) (lent out : List ℤ) (table answered : List ℕ) : Type 0 where
   pub world : after ≡ runFrom w fs (roomIn lent) .world
   pub list : out ≡ numbersAfter (runFrom w fs (roomIn lent) .records) lent

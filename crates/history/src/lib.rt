@@ -5,11 +5,13 @@ ghost use Prim.Native.Nat.{_*_, _/_, _≤_, _<_, min};
 ghost use Rattle.rules.specs.World.{worldOf};
 ghost use Rattle.settlement.specs.Replies.{Replied};
 ghost use Rattle.history.specs.Runs.{fieldsOf, messagesOf, Followed};
-use messages::number;
+ghost use Rattle.rules.specs.Sizes.{places};
+ghost use Rattle.rules.specs.Lent.{left, was};
 use rules::Book;
 use rules::Fields;
 use settlement::Reply;
 use settlement::message;
+use validation::questions::number;
 
 // What a run leaves: the book, and how many records stand at the front of the list.
 pub struct Ran {
@@ -28,7 +30,7 @@ fn taken(numbers: usize, places: usize) -> usize
 // The message at a place, nine numbers each.
 fn fields_at(inputs: &[u64], i: usize) -> Fields
     requires { ⌜ i < length (now inputs) / 9 ⌝ }
-    ensures { λ r. ⌜ r ≡ fieldsOf (now (inputs .entry)) i ⌝ }
+    ensures { λ r. ⌜ r ≡ fieldsOf (was inputs) i ⌝ }
 {
     let at = i * 9;
     Fields {
@@ -61,7 +63,7 @@ fn take_one(
     fields: Fields,
 ) -> Reply
     requires { ⌜ count ≤ length (now records) / 6 ⌝ }
-    ensures { λ r. ⌜ Replied (worldOf book (now (element_data .entry)) (now (prices .entry)) (now (links .entry)) (now (holders .entry)) (now (states .entry)) (now (readings .entry)) (now (blocks .entry)) (now (lines .entry)) (now (sent .entry))) (worldOf (r .book) (now (element_data .entry)) (now (prices .entry)) (now (links .exit)) (now (holders .exit)) (now (states .exit)) (now (readings .exit)) (now (blocks .exit)) (now (lines .exit)) (now (sent .exit))) fields r (drop (count * 6) (now (records .entry))) (drop (count * 6) (now (records .exit))) × (take (count * 6) (now (records .exit)) ≡ take (count * 6) (now (records .entry))) ⌝ }
+    ensures { λ r. ⌜ Replied (worldOf book (was element_data) (was prices) (was links) (was holders) (was states) (was readings) (was blocks) (was lines) (was sent)) (worldOf (r .book) (was element_data) (was prices) (left links) (left holders) (left states) (left readings) (left blocks) (left lines) (left sent)) fields r (drop (count * 6) (was records)) (drop (count * 6) (left records)) × (take (count * 6) (left records) ≡ take (count * 6) (was records)) ⌝ }
 {
     let at = count * 6;
     message(
@@ -97,7 +99,7 @@ pub fn run(
     inputs: &[u64],
     answers: &mut [u64],
 ) -> Ran
-    ensures { λ r. ⌜ Followed (worldOf book (now (element_data .entry)) (now (prices .entry)) (now (links .entry)) (now (holders .entry)) (now (states .entry)) (now (readings .entry)) (now (blocks .entry)) (now (lines .entry)) (now (sent .entry))) (worldOf (r .book) (now (element_data .entry)) (now (prices .entry)) (now (links .exit)) (now (holders .exit)) (now (states .exit)) (now (readings .exit)) (now (blocks .exit)) (now (lines .exit)) (now (sent .exit))) (messagesOf (now (inputs .entry)) (min (length (now (inputs .entry)) / 9) (length (now (answers .entry))))) (r .records) (now (records .entry)) (now (records .exit)) (now (answers .entry)) (now (answers .exit)) ⌝ }
+    ensures { λ r. ⌜ Followed (worldOf book (was element_data) (was prices) (was links) (was holders) (was states) (was readings) (was blocks) (was lines) (was sent)) (worldOf (r .book) (was element_data) (was prices) (left links) (left holders) (left states) (left readings) (left blocks) (left lines) (left sent)) (messagesOf (was inputs) (min (length (was inputs) / 9) (length (was answers)))) (r .records) (was records) (left records) (was answers) (left answers) ⌝ }
 {
     let n = taken(inputs.len(), answers.len());
     let mut after = book;

@@ -1,4 +1,9 @@
--- Laws of lines with changes: for the proofs of the functions, and for callers.
+-- Laws of lines with changes, of what a round sends, and of the list of records.
+pub mod ListFronts
+pub mod AmountLaws
+pub mod Bounds
 pub mod Fronts
 pub mod MovedLines
 pub mod Own
+pub mod RecordNumbers
+pub mod RoundLaws

@@ -1,2 +1,6 @@
 -- What the functions of this crate are stated by.
+pub mod Amounts
+pub mod Bounds
 pub mod Added
+pub mod RecordNumbers
+pub mod Moved

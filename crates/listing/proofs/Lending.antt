@@ -1,6 +1,5 @@
--- A `&κ mut [T]` of n elements that is lent for a lifetime κ′ of a call, again as `&mut` or shared as `&`, and comes back. It says nothing of the crate.
---     LentAgain, SharedOut     what the holder keeps meanwhile
--- Assumes `Given`.
+-- A `&κ mut [T]` of n elements that is lent for a lifetime κ′ of a call, again as `&mut` or shared as `&`, and comes back. It says nothing
+-- of the crate. LentAgain, SharedOut     what the holder keeps meanwhile Assumes `Given`.
 use mathlib.Core.Path.{_≡_, refl, sym, ap, subst}
 use Prim.Native.Nat.{ℕ}
 use mathlib.Core.List.{List, [], _∷_}

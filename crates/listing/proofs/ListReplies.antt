@@ -1,5 +1,5 @@
--- Laws of a message that is lent a list of records: the records that are due, put at its front before the message is taken, make it the rules' `listAfter`;
--- a refused message leaves it, and everything else, as it was. Assumes nothing.
+-- Laws of a message that is lent a list of records: the records that are due, put at its front before the message is taken, make it the
+-- rules' `listAfter`; a refused message leaves it, and everything else, as it was. Assumes nothing.
 use mathlib.Core.Path.{_≡_, sym, ap₂, _∙_}
 use mathlib.Core.List.{List, _++_}
 use mathlib.Core.Option.{none}
@@ -15,9 +15,9 @@ use Rattle.rules.specs.Basics.{listTo}
 use Rattle.rules.specs.World.{World}
 use Rattle.rules.specs.Effects.{supplierOf, elementOf, recordOf, recordsOf, listAfter, answer, accepted, step, stepBy, writtenBy}
 use Rattle.rules.proofs.Ranges.{length-listTo}
-use Rattle.rules.proofs.Parts.{Whole}
-use Rattle.rounds.specs.Moved.{IsWorld}
-use Rattle.records.proofs.ListAfter.{after-refused}
+use Rattle.rules.specs.Whole.{Whole}
+use Rattle.ledger.specs.Moved.{IsWorld}
+use Rattle.ledger.proofs.ListAfter.{after-refused}
 use Rattle.settlement.specs.declared.Reply.{Reply}
 use Rattle.settlement.specs.Replies.{Answered, Due}
 use Rattle.settlement.proofs.Stepping.{step-whole}

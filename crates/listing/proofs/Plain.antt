@@ -10,9 +10,9 @@ use Rattle.rules.specs.declared.Fields.{Fields}
 use Rattle.rules.specs.Answers.{numberOf}
 use Rattle.rules.specs.World.{World}
 use Rattle.rules.specs.Effects.{answer}
-use Rattle.wire.specs.Lines.{refusedLine, longestLine, Written}
-use Rattle.wire.specs.Program.{recordPlaces, recordLines, answered}
-use Rattle.wire.proofs.PlacedLaws.{loosened}
+use Rattle.file.specs.Lines.{refusedLine, longestLine, Written}
+use Rattle.file.specs.Program.{recordPlaces, recordLines, answered}
+use Rattle.file.proofs.PlacedLaws.{loosened}
 use Rattle.settlement.specs.Replies.{Answered}
 use Rattle.settlement.proofs.NoRecords.{no-records}
 use Rattle.listing.specs.declared.Printed.{Printed}

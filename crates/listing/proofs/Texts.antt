@@ -1,5 +1,5 @@
--- Laws of what a message prints: the lines of its records one behind the other, then its refusal or nothing, are the text of the program's definition.
--- Assumes nothing.
+-- Laws of what a message prints: the lines of its records one behind the other, then its refusal or nothing, are the text of the program's
+-- definition. Assumes nothing.
 use mathlib.Core.Path.{_≡_, sym, ap, subst, _∙_}
 use mathlib.Core.Bool.{cond}
 use mathlib.Core.List.{List, [], _∷_, _++_, append-assoc, append-nil}
@@ -18,10 +18,10 @@ use Rattle.rules.specs.Answers.{numberOf}
 use Rattle.rules.specs.World.{World}
 use Rattle.rules.specs.Effects.{answer, recordsOf, listAfter}
 use Rattle.rules.proofs.Tests.{cases}
-use Rattle.rules.proofs.Parts.{Whole}
-use Rattle.wire.specs.Lines.{recordLine, refusedLine, longestLine, Written}
-use Rattle.wire.specs.Program.{recordPlaces, recordLines, answered}
-use Rattle.wire.proofs.PlacedLaws.{placed-none, joined, loosened}
+use Rattle.rules.specs.Whole.{Whole}
+use Rattle.file.specs.Lines.{recordLine, refusedLine, longestLine, Written}
+use Rattle.file.specs.Program.{recordPlaces, recordLines, answered}
+use Rattle.file.proofs.PlacedLaws.{placed-none, joined, loosened}
 use Rattle.settlement.specs.declared.Reply.{Reply}
 use Rattle.settlement.specs.Replies.{Answered}
 use Rattle.listing.specs.declared.Printed.{Printed}

@@ -9,8 +9,8 @@ use Rattle.rules.specs.declared.Record.{Record}
 use Rattle.rules.specs.World.{World}
 use Rattle.rules.specs.Effects.{answer, step, recordsOf, listAfter}
 use Rattle.rules.specs.Answers.{numberOf}
-use Rattle.wire.specs.Lines.{longestLine, Written}
-use Rattle.wire.specs.Program.{recordPlaces, answered}
+use Rattle.file.specs.Lines.{longestLine, Written}
+use Rattle.file.specs.Program.{recordPlaces, answered}
 use Rattle.settlement.specs.declared.Reply.{Reply}
 use Rattle.settlement.specs.Replies.{Answered}
 use Rattle.listing.specs.declared.Printed.{Printed}

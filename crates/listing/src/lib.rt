@@ -1,5 +1,5 @@
-// The entry point for messages that is lent a list of records: the records that are due go to its front, then the message is taken. Over it,
-// what a message prints.
+// The entry point for messages that is lent a list of records: the records that are due go to its front, then the message is taken. Over
+// it, what a message prints.
 ghost use mathlib.Core.Path.{_≡_};
 ghost use mathlib.Core.Logic.{_≢_};
 ghost use mathlib.Core.Bool.{cond};
@@ -9,12 +9,14 @@ ghost use lib.ListN.{length, take, getD};
 ghost use lib.Dec.{eqb};
 ghost use Rattle.rules.specs.World.{worldOf};
 ghost use Rattle.rules.specs.Answers.{numberOf};
-ghost use Rattle.rules.proofs.Parts.{Whole};
-ghost use Rattle.wire.specs.Lines.{recordLine, refusedLine, longestLine, Written};
-ghost use Rattle.wire.specs.Program.{recordPlaces, recordLines};
+ghost use Rattle.rules.specs.Whole.{Whole};
+ghost use Rattle.file.specs.Lines.{recordLine, refusedLine, longestLine, Written};
+ghost use Rattle.file.specs.Program.{recordPlaces, recordLines};
 ghost use Rattle.listing.specs.Replies.{noRecord, Replied, Texted};
-use messages::number;
-use records::put_list;
+ghost use Rattle.rules.specs.Lent.{left, was};
+use file::output::put_record;
+use file::output::put_refused;
+use ledger::records::put_list;
 use rules::Book;
 use rules::Fields;
 use rules::Record;
@@ -22,8 +24,7 @@ use settlement::Reply;
 use settlement::due;
 use settlement::take;
 use settlement::take_within;
-use wire::put_record;
-use wire::put_refused;
+use validation::questions::number;
 
 // A message of any book and any tables: questions 2 to 18. A refusal leaves book, tables and list as they were.
 pub fn message(
@@ -40,7 +41,7 @@ pub fn message(
     records: &mut [Record],
     fields: Fields,
 ) -> Reply
-    ensures { λ r. ⌜ Replied (worldOf book (now (element_data .entry)) (now (prices .entry)) (now (links .entry)) (now (holders .entry)) (now (states .entry)) (now (readings .entry)) (now (blocks .entry)) (now (lines .entry)) (now (sent .entry))) (worldOf (r .book) (now (element_data .entry)) (now (prices .entry)) (now (links .exit)) (now (holders .exit)) (now (states .exit)) (now (readings .exit)) (now (blocks .exit)) (now (lines .exit)) (now (sent .exit))) fields r (now (records .entry)) (now (records .exit)) ⌝ }
+    ensures { λ r. ⌜ Replied (worldOf book (was element_data) (was prices) (was links) (was holders) (was states) (was readings) (was blocks) (was lines) (was sent)) (worldOf (r .book) (was element_data) (was prices) (left links) (left holders) (left states) (left readings) (left blocks) (left lines) (left sent)) fields r (was records) (left records) ⌝ }
 {
     let mut moved = [0u64; 1024];
     let count = due(
@@ -86,7 +87,7 @@ pub struct Printed {
 // The record at a place of the list.
 fn record_in(list: &[Record], at: usize) -> Record
     requires { ⌜ at < length (now list) ⌝ }
-    ensures { λ r. ⌜ r ≡ getD (now (list .entry)) at noRecord ⌝ }
+    ensures { λ r. ⌜ r ≡ getD (was list) at noRecord ⌝ }
 {
     list[at]
 }
@@ -94,7 +95,7 @@ fn record_in(list: &[Record], at: usize) -> Record
 // The line of the record at place `i` of the list.
 fn put_entry(list: &[Record], i: usize, out: &mut [u8], at: usize) -> usize
     requires { ⌜ (i < length (now list)) × (at + longestLine ≤ length (now out)) ⌝ }
-    ensures { λ r. ⌜ Written longestLine (now (out .entry)) (now (out .exit)) at r (recordLine (getD (now (list .entry)) i noRecord)) ⌝ }
+    ensures { λ r. ⌜ Written longestLine (was out) (left out) at r (recordLine (getD (was list) i noRecord)) ⌝ }
 {
     let record = record_in(list, i);
     put_record(out, at, record)
@@ -103,7 +104,7 @@ fn put_entry(list: &[Record], i: usize, out: &mut [u8], at: usize) -> usize
 // The lines of the first `count` records of the list. Linear in them.
 fn put_entries(list: &[Record], count: usize, out: &mut [u8], from: usize) -> usize
     requires { ⌜ (count ≤ length (now list)) × (from + count * longestLine ≤ length (now out)) ⌝ }
-    ensures { λ r. ⌜ Written (count * longestLine) (now (out .entry)) (now (out .exit)) from r (recordLines (take count (now (list .entry)))) ⌝ }
+    ensures { λ r. ⌜ Written (count * longestLine) (was out) (left out) from r (recordLines (take count (was list))) ⌝ }
 {
     let mut written = from;
     let mut i = 0;
@@ -117,7 +118,7 @@ fn put_entries(list: &[Record], count: usize, out: &mut [u8], from: usize) -> us
 // The refusal of a message, or nothing.
 fn put_question(out: &mut [u8], at: usize, message: u64, question: u64) -> usize
     requires { ⌜ (question ≢ 0 → at + longestLine ≤ length (now out)) ⌝ }
-    ensures { λ r. ⌜ Written longestLine (now (out .entry)) (now (out .exit)) at r (cond (eqb question 0) [] (refusedLine message question)) ⌝ }
+    ensures { λ r. ⌜ Written longestLine (was out) (left out) at r (cond (eqb question 0) [] (refusedLine message question)) ⌝ }
 {
     if question == 0 {
         at
@@ -129,14 +130,15 @@ fn put_question(out: &mut [u8], at: usize, message: u64, question: u64) -> usize
 // The refusal of a message, or nothing, behind its records.
 fn put_answer(reply: Reply, message: u64, out: &mut [u8], at: usize) -> Printed
     requires { ⌜ (numberOf (reply .answer) ≢ 0 → at + longestLine ≤ length (now out)) ⌝ }
-    ensures { λ r. ⌜ (r .reply ≡ reply) × Written longestLine (now (out .entry)) (now (out .exit)) at (r .written) (cond (eqb (numberOf (reply .answer)) 0) [] (refusedLine message (numberOf (reply .answer)))) ⌝ }
+    ensures { λ r. ⌜ (r .reply ≡ reply) × Written longestLine (was out) (left out) at (r .written) (cond (eqb (numberOf (reply .answer)) 0) [] (refusedLine message (numberOf (reply .answer)))) ⌝ }
 {
     let answer = reply.answer;
     let written = put_question(out, at, message, number(answer));
     Printed { reply, written }
 }
 
-// A message of a book that is well formed, and stays so, with a list of 1,024 records: what it prints, from a place on. Cost: as for `message`.
+// A message of a book that is well formed, and stays so, with a list of 1,024 records: what it prints, from a place on. Cost: as for
+// `message`.
 fn message_text(
     book: Book,
     element_data: &[u8],
@@ -154,7 +156,7 @@ fn message_text(
     from: usize,
 ) -> Printed
     requires { ⌜ Whole (worldOf book (now element_data) (now prices) (now links) (now holders) (now states) (now readings) (now blocks) (now lines) (now sent)) × (from + recordPlaces * longestLine ≤ length (now out)) ⌝ }
-    ensures { λ r. ⌜ Texted (worldOf book (now (element_data .entry)) (now (prices .entry)) (now (links .entry)) (now (holders .entry)) (now (states .entry)) (now (readings .entry)) (now (blocks .entry)) (now (lines .entry)) (now (sent .entry))) (worldOf (r .reply .book) (now (element_data .entry)) (now (prices .entry)) (now (links .exit)) (now (holders .exit)) (now (states .exit)) (now (readings .exit)) (now (blocks .exit)) (now (lines .exit)) (now (sent .exit))) fields message r (now (out .entry)) (now (out .exit)) from × Whole (worldOf (r .reply .book) (now (element_data .entry)) (now (prices .entry)) (now (links .exit)) (now (holders .exit)) (now (states .exit)) (now (readings .exit)) (now (blocks .exit)) (now (lines .exit)) (now (sent .exit))) ⌝ }
+    ensures { λ r. ⌜ Texted (worldOf book (was element_data) (was prices) (was links) (was holders) (was states) (was readings) (was blocks) (was lines) (was sent)) (worldOf (r .reply .book) (was element_data) (was prices) (left links) (left holders) (left states) (left readings) (left blocks) (left lines) (left sent)) fields message r (was out) (left out) from × Whole (worldOf (r .reply .book) (was element_data) (was prices) (left links) (left holders) (left states) (left readings) (left blocks) (left lines) (left sent)) ⌝ }
 {
     let mut list = [Record {
         kind: 0,
@@ -202,7 +204,7 @@ pub fn message_printed(
     from: usize,
 ) -> Printed
     requires { ⌜ Whole (worldOf book (now element_data) (now prices) (now links) (now holders) (now states) (now readings) (now blocks) (now lines) (now sent)) × (from + recordPlaces * longestLine ≤ length (now out)) ⌝ }
-    ensures { λ r. ⌜ Texted (worldOf book (now (element_data .entry)) (now (prices .entry)) (now (links .entry)) (now (holders .entry)) (now (states .entry)) (now (readings .entry)) (now (blocks .entry)) (now (lines .entry)) (now (sent .entry))) (worldOf (r .reply .book) (now (element_data .entry)) (now (prices .entry)) (now (links .exit)) (now (holders .exit)) (now (states .exit)) (now (readings .exit)) (now (blocks .exit)) (now (lines .exit)) (now (sent .exit))) fields message r (now (out .entry)) (now (out .exit)) from × Whole (worldOf (r .reply .book) (now (element_data .entry)) (now (prices .entry)) (now (links .exit)) (now (holders .exit)) (now (states .exit)) (now (readings .exit)) (now (blocks .exit)) (now (lines .exit)) (now (sent .exit))) ⌝ }
+    ensures { λ r. ⌜ Texted (worldOf book (was element_data) (was prices) (was links) (was holders) (was states) (was readings) (was blocks) (was lines) (was sent)) (worldOf (r .reply .book) (was element_data) (was prices) (left links) (left holders) (left states) (left readings) (left blocks) (left lines) (left sent)) fields message r (was out) (left out) from × Whole (worldOf (r .reply .book) (was element_data) (was prices) (left links) (left holders) (left states) (left readings) (left blocks) (left lines) (left sent)) ⌝ }
 {
     if fields.kind == 8 {
         return message_text(

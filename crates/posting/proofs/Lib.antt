@@ -1,2 +1,20 @@
 -- Laws that the proofs of this crate share.
 pub mod Signs
+pub mod Moved
+pub mod Shares
+pub mod Fits
+pub mod Small
+pub mod Segments
+pub mod PointRows
+pub mod Months
+pub mod Elsewhere
+pub mod DayOwed
+pub mod Moves
+pub mod ByKind
+pub mod Payment
+pub mod Spans
+pub mod WholeBook
+pub mod RowRange
+pub mod Posted
+pub mod Repaid
+pub mod Sizes

@@ -1,5 +1,5 @@
--- The answers of the line query and of the query for periods. A line that is right is stored in its one form, so the stored numbers are those that
--- the rules name; for a book that was reached from an opening demand 3 says which.
+-- The answers of the line query and of the query for periods. A line that is right is stored in its one form, so the stored numbers are
+-- those that the rules name; for a book that was reached from an opening demand 3 says which.
 use Prim.Native.Nat.{ℕ, _+_, _-_, _*_, _≤_, _<_}
 use mathlib.Core.Path.{_≡_, sym, ap, _∙_}
 use mathlib.Core.Logic.{_≢_}
@@ -12,20 +12,19 @@ use native.Mathlib.Nat.{mul-le-mul}
 use native.Mathlib.Omega.{arith}
 use Rattle.rules.specs.declared.Answer.{Answer}
 use Rattle.rules.specs.declared.LineAnswer.{LineAnswer}
-use Rattle.pricing.specs.declared.Line.{Line}
+use Rattle.ledger.specs.declared.lines.Line.{Line}
 use Rattle.rules.specs.Lines.{Measure}
 use Rattle.rules.specs.Rows.{pairRows}
 use Rattle.rules.specs.World.{World, rowsOf, lineAt, lineCount, storedAt, stored}
-use Rattle.rules.specs.WellFormed.{lineRight, linesRight, tablesRight, question5}
+use Rattle.rules.specs.WellFormed.{lineRight, linesRight, linePlaces}
 use Rattle.rules.specs.Queries.{lineNumber, lineQuery, lineNamed, periodsNumber, periodsQuery}
 use Rattle.rules.specs.Answers.{numberOf, lineResult}
-use Rattle.rules.proofs.Tests.{both}
 use Rattle.rules.proofs.Ranges.{all-at}
 use Rattle.rules.proofs.Stored.{line-below}
 use Rattle.rules.proofs.LineQuery.{query-stored}
 use Rattle.rules.proofs.Demand3.{demand3}
-use Rattle.pricing.specs.Bounds.{LineOf}
-use Rattle.book.proofs.Passes.{measured}
+use Rattle.ledger.specs.Bounds.{LineOf}
+use Rattle.rules.proofs.Parts.{lengths, formed}
 use Rattle.queries.specs.Promises.{isLine, LineAnswered}
 use Rattle.queries.proofs.Asks.{line-passed}
 
@@ -49,38 +48,40 @@ module _ (w : World) (s e : ℕ) where
   -- ---- answered
 
   module _ (h : lineNumber w s e ≡ 0) where
-    pub line-in : (1 ≤ s) × ((s ≤ 16) × ((w .opening .elements ≤ 64) × (e < w .opening .elements)))
+    pub line-in : ((1 ≤ s) × (s ≤ 16)) × ((w .opening .elements ≤ 64) × (e < w .opening .elements))
     line-in =
         let k = line-passed w s e h in
-        let m = measured w (k .0 .limited) (k .0 .sized) .limits in
+        let m = lengths w (k .0) .limited in
         let b = k .1 in
         let x = m .suppliers in
         let y = b .supplier in
-        (b .someone, (omega arith, (m .elements, b .element)))
+        ((b .someone, omega arith), (m .elements, b .element))
 
     -- the line's three places are there, and the line is right
-    pub line-there : (lineAt (w .opening) s e + 2 < length (w .position .lines)) × (lineRight (w .position .lines) (lineAt (w .opening) s e) ≡ true)
-    unfolding question5 linesRight lineAt lineCount
+    pub line-there : (lineAt (w .opening) s e + 2 < length (w .position .lines))
+        × (lineRight (w .position .lines) (lineAt (w .opening) s e) ≡ true)
+    unfolding linesRight linePlaces lineAt lineCount
     line-there =
         let k = line-passed w s e h in
         let n = line-below (w .opening) s e (k .1) in
-        let m = measured w (k .0 .limited) (k .0 .sized) .lines in
-        let r = both (tablesRight (w .opening) (w .position .tables)) _ (k .0 .right) in
-        let l = both (linesRight (w .opening) (w .position .lines)) _ (r .1) .0 in
-        (omega arith, all-at _ _ l ((s - 1) * w .opening .elements + e) n)
+        let m = lengths w (k .0) .lines in
+        (omega arith, all-at _ _ (formed w (k .0) .lines) ((s - 1) * w .opening .elements + e) n)
 
     pub line-named : (r : Line) (m n : ℕ)
-        → LineOf r (storedAt (w .position .lines) Measure.quantity (lineAt (w .opening) s e)) (storedAt (w .position .lines) Measure.amount (lineAt (w .opening) s e)) m n
+        → LineOf r (storedAt (w .position .lines) Measure.quantity (lineAt (w .opening) s e))
+        (storedAt (w .position .lines) Measure.amount (lineAt (w .opening) s e)) m n
         → LineAnswered w s e (LineAnswer.Line (r .quantity) (r .kroner) (r .billionths))
     unfolding stored lineNamed
     line-named r m n l =
         let k = line-passed w s e h in
-        answered (LineAnswer.Line (r .quantity) (r .kroner) (r .billionths)) (sym (eq-eqb _ _ h)) (rw (l .quantity, l .kroner, l .billionths) (sym (query-stored w (k .0) s e (k .1))))
+        answered (LineAnswer.Line (r .quantity) (r .kroner) (r .billionths)) (sym (eq-eqb _ _ h))
+        (rw (l .quantity, l .kroner, l .billionths) (sym (query-stored w (k .0) s e (k .1))))
 
 -- ---- the periods
 
 module _ (w : World) (p e : ℕ) where
-  pub periods-answered : periodsNumber w p e ≡ 0 → pairRows p e (take (w .position .tables .links .used) (w .position .tables .links .words)) ≡ periodsQuery w p e
+  pub periods-answered : periodsNumber w p e ≡ 0
+      → pairRows p e (take (w .position .tables .links .used) (w .position .tables .links .words)) ≡ periodsQuery w p e
   unfolding periodsQuery rowsOf
   periods-answered h = rw h
 

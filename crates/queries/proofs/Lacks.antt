@@ -1,11 +1,11 @@
--- The search for a day without a holder: some element, place by place, and the days of the month, one by one. No day outside the month is meant.
+-- The search for a day without a holder: some element, place by place, and the days of the month, one by one. No day outside the month is
+-- meant.
 use Prim.Native.Nat.{ℕ, zero, suc, _+_, _≤_, _<_}
 use mathlib.Core.Path.{_≡_, refl, sym, _∙_}
 use mathlib.Core.Logic.{_≢_}
 use mathlib.Core.Bool.{Bool, true, false, not}
 use mathlib.Core.List.{List}
 use lib.Dec.{eqb, leb, ltb}
-use lib.IntN.{ℤ}
 use borrow.Author.Tests.{eqb-true, ne-eqb, le-leb, lt-ltb}
 use native.Mathlib.Omega.{arith}
 use native.Mathlib.Numerals.{add-one}
@@ -13,11 +13,13 @@ use Rattle.calendar.specs.Gregorian.{firstDay, daysOfMonth}
 use Rattle.rules.specs.declared.Book.{Book}
 use Rattle.rules.specs.Basics.{anyTo}
 use Rattle.rules.specs.Rows.{quantityOn}
-use Rattle.rules.specs.World.{Opening, Tables, openingOf, tablesOf, worldOf, monthFirst, monthDays, holderOn, stateOn, countingState, linkedOn}
+use Rattle.rules.specs.World.{Opening, Tables, monthFirst, monthDays, holderOn, stateOn, countingState, linkedOn}
 use Rattle.rules.specs.Questions.{question16}
 use Rattle.rules.specs.Queries.{dayNumber, lacksHolder}
 use Rattle.rules.proofs.Tests.{tests, cases}
-use Rattle.messages.proofs.Whole.{whole-readable}
+use Rattle.rules.specs.Lent.{Lists, worldIn, openingIn, tablesIn, lendRows}
+use Rattle.rules.proofs.Parts.{lengths}
+use Rattle.tables.proofs.Right.{whole-rows}
 use Rattle.queries.specs.Days.{PointAsked}
 use Rattle.queries.proofs.Asks.{day-passed}
 
@@ -54,7 +56,8 @@ module _ (o : Opening) (t : Tables) (p : ℕ) where
 
   -- a day of the month: by the holder, the state and the links
   module _ (d : ℕ) (h : monthFirst o ≤ d) (k : d < monthFirst o + monthDays o) where
-    pub by-links : holderOn t p d ≡ 0 → countingState (stateOn t p d) ≡ true → anyTo (λ e. linkedOn t p e d) (o .elements) ≡ lacksHolder o t p d
+    pub by-links : holderOn t p d ≡ 0 → countingState (stateOn t p d) ≡ true
+        → anyTo (λ e. linkedOn t p e d) (o .elements) ≡ lacksHolder o t p d
     unfolding lacksHolder
     by-links a b = rw (in-month d h k, a, b)
 
@@ -71,7 +74,8 @@ module _ (o : Opening) (t : Tables) (p : ℕ) where
   outside d h = rw h
 
   -- where no day of the month is one, none is
-  pub none-lacks : ((d : ℕ) → monthFirst o ≤ d → d < monthFirst o + monthDays o → lacksHolder o t p d ≡ false) → (d : ℕ) → lacksHolder o t p d ≡ false
+  pub none-lacks : ((d : ℕ) → monthFirst o ≤ d → d < monthFirst o + monthDays o → lacksHolder o t p d ≡ false)
+      → (d : ℕ) → lacksHolder o t p d ≡ false
   none-lacks h d = cases (leb (monthFirst o) d)
       (λ a. cases (ltb d (monthFirst o + monthDays o))
       (λ b. h d (omega (arith, tests)) (omega (arith, tests)))
@@ -81,47 +85,46 @@ module _ (o : Opening) (t : Tables) (p : ℕ) where
 -- ---- the days, one by one
 
 -- no day of the month before this one is one
-pub record Searched (b : Book) (ls hs ss : List ℕ) (p end day : ℕ) : Type 0 where
+pub record Searched (b : Book) (links holders states : List ℕ) (p end day : ℕ) : Type 0 where
   pub from : firstDay (b .year) (b .month) ≤ day
   pub upto : day ≤ end
   pub last : end ≡ firstDay (b .year) (b .month) + daysOfMonth (b .year) (b .month)
-  pub none : (d : ℕ) → firstDay (b .year) (b .month) ≤ d → d < day → (ds : List ℕ) (ps : List ℤ) (rs bs : List ℕ)
-      → lacksHolder (openingOf b ds ps) (tablesOf b ls hs ss rs bs) p d ≡ false
+  pub none : (d : ℕ) → firstDay (b .year) (b .month) ≤ d → d < day → (o : Lists)
+      → lacksHolder (openingIn b o) (tablesIn b (lendRows links holders states o)) p d ≡ false
 
-module _ (b : Book) (ls hs ss : List ℕ) (p end day : ℕ) where
-  pub searched-more : Searched b ls hs ss p end day → day < end
-      → ((ds : List ℕ) (ps : List ℤ) (rs bs : List ℕ) → lacksHolder (openingOf b ds ps) (tablesOf b ls hs ss rs bs) p day ≡ false)
-      → Searched b ls hs ss p end (day + 1)
+module _ (b : Book) (links holders states : List ℕ) (p end day : ℕ) where
+  pub searched-more : Searched b links holders states p end day → day < end
+      → ((o : Lists) → lacksHolder (openingIn b o) (tablesIn b (lendRows links holders states o)) p day ≡ false)
+      → Searched b links holders states p end (day + 1)
   searched-more s l h =
       let f = s .from in
       record {
         from = omega arith;
         upto = omega arith;
         last = s .last;
-        none = λ d i j ds ps rs bs. cases (eqb d day)
-            (λ e. rw (eqb-true d day e) (h ds ps rs bs))
-            (λ e. s .none d i (omega (arith, tests)) ds ps rs bs);
+        none = λ d i j o. cases (eqb d day)
+            (λ e. rw (eqb-true d day e) (h o))
+            (λ e. s .none d i (omega (arith, tests)) o);
       }
 
-  pub searched-all : Searched b ls hs ss p end day → end ≤ day → (ds : List ℕ) (ps : List ℤ) (rs bs : List ℕ)
-      → (d : ℕ) → lacksHolder (openingOf b ds ps) (tablesOf b ls hs ss rs bs) p d ≡ false
+  pub searched-all : Searched b links holders states p end day → end ≤ day → (o : Lists)
+      → (d : ℕ) → lacksHolder (openingIn b o) (tablesIn b (lendRows links holders states o)) p d ≡ false
   unfolding monthFirst monthDays
-  searched-all s l ds ps rs bs = none-lacks (openingOf b ds ps) (tablesOf b ls hs ss rs bs) p
-      (λ d i j. let e = s .last in let u = s .upto in s .none d i (omega arith) ds ps rs bs)
+  searched-all s l o = none-lacks (openingIn b o) (tablesIn b (lendRows links holders states o)) p
+      (λ d i j. let e = s .last in let u = s .upto in s .none d i (omega arith) o)
 
 -- what the search needs, where no question says no
-pub point-asked : (b : Book) (ds : List ℕ) (ps : List ℤ) (ls hs ss rs bs : List ℕ) (ns ts : List ℤ) (p : ℕ)
-    → dayNumber (worldOf b ds ps ls hs ss rs bs ns ts) p ≡ 0 → PointAsked b ls hs ss p
-point-asked b ds ps ls hs ss rs bs ns ts p h =
-    let w = worldOf b ds ps ls hs ss rs bs ns ts in
-    let k = day-passed w p h in
-    let r = whole-readable w (k .0) in
+pub point-asked : (b : Book) (o : Lists) (p : ℕ) → dayNumber (worldIn b o) p ≡ 0 → PointAsked b (o .links) (o .holders) (o .states) p
+point-asked b o p h =
+    let k = day-passed (worldIn b o) p h in
+    let n = lengths (worldIn b o) (k .0) .limited in
+    let r = whole-rows b o (k .0) in
     record {
-      month = r .month;
-      points = r .points;
-      elements = r .elements;
+      month = n .month;
+      points = n .points;
+      elements = n .elements;
       point = k .1;
-      links = r .links .rows;
+      links = r .links;
       holders = r .holders;
       states = r .states;
     }

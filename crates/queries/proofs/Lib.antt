@@ -1,6 +1,4 @@
--- Laws that the proofs of this crate cite.
-pub mod Cleared
-pub mod Opens
+-- Laws of this crate, each file above what it cites.
 pub mod Asks
-pub mod Answered
 pub mod Lacks
+pub mod Answered

@@ -3,20 +3,21 @@ use Prim.Native.Nat.{ℕ, _+_, _≤_, _<_}
 use mathlib.Core.List.{List}
 use Rattle.calendar.specs.Gregorian.{firstDay, daysOfMonth, InRange}
 use Rattle.rules.specs.declared.Book.{Book}
+use Rattle.rules.specs.Sizes.{endOfDays, holderSize, mostElements, mostPoints, stateSize}
 use Rattle.tables.specs.Order.{LinkRows, ValueRows}
 
 -- a book whose rows are in order, and one of its points
-pub record PointAsked (b : Book) (ls hs ss : List ℕ) (p : ℕ) : Type 0 where
+pub record PointAsked (b : Book) (linkWords holderWords stateWords : List ℕ) (p : ℕ) : Type 0 where
   pub month : InRange (b .year) (b .month)
-  pub points : b .points ≤ 256
-  pub elements : b .elements ≤ 64
+  pub points : b .points ≤ mostPoints
+  pub elements : b .elements ≤ mostElements
   pub point : p < b .points
-  pub links : LinkRows ls (b .periods)
-  pub holders : ValueRows 32 hs (b .holders)
-  pub states : ValueRows 8 ss (b .states)
+  pub links : LinkRows linkWords (b .periods)
+  pub holders : ValueRows holderSize holderWords (b .holders)
+  pub states : ValueRows stateSize stateWords (b .states)
 
 -- a day of the book's month
 pub record InMonth (b : Book) (d : ℕ) : Type 0 where
   pub from : firstDay (b .year) (b .month) ≤ d
   pub upto : d < firstDay (b .year) (b .month) + daysOfMonth (b .year) (b .month)
-  pub within : d < 36525
+  pub within : d < endOfDays

@@ -1,3 +1,3 @@
--- What the entry points promise, and what the query for a day needs.
+-- What the queries promise, and what the one for a day needs.
 pub mod Promises
 pub mod Days

@@ -13,7 +13,7 @@ use native.Mathlib.Nat.{mul-le-mul-right}
 use Rattle.rules.specs.declared.Body.{Body}
 use Rattle.rules.specs.declared.Body.the-variants.{Link, Stop, Quantity, Holder, State, Reading, Block, Round}
 use Rattle.rules.specs.Rows.{packPeriod, ofPair, covers, quantityOn, startsOn, nextStart, insertRow, stopRows, splitRows, packValue, recordedOn, recordRow}
-use Rattle.rules.specs.World.{Opening, Tables, rowsOf, tableOf, kindOf, monthFirst, monthDays, readingAt, energyOf}
+use Rattle.rules.specs.World.{Opening, Tables, rowsOf, kindOf, monthFirst, monthDays, readingAt, energyOf}
 use Rattle.rules.specs.WellFormed.{readingCount}
 use Rattle.rules.specs.Questions.{pointOf}
 use Rattle.rules.specs.Effects.{withLinks, withHolders, withStates, withReadings, withBlocks, linkEnd, told}
@@ -22,12 +22,14 @@ use Rattle.rules.proofs.Tests.{tests, cases, both, eqb-comm}
 use Rattle.rules.proofs.Ranges.{all-cong}
 use Rattle.rules.proofs.Words.{pair-pack, pair-pack-same, covers-is}
 use Rattle.rules.proofs.Values.{recorded-pack}
-use Rattle.rules.proofs.Runs.{Run, linkedIn, covered}
+use Rattle.rules.specs.Order.{Run, linkedIn}
+use Rattle.rules.proofs.Runs.{covered}
 use Rattle.rules.proofs.Reach.{goes-on, no-start, next-after}
 use Rattle.rules.proofs.Changes.{quantity-insert, starts-insert, clear, quantity-stop, starts-stop, quantity-stop-other, starts-stop-other, quantity-split, starts-split, quantity-split-other, starts-split-other}
 use Rattle.rules.proofs.PeriodsRight.{packed}
 use Rattle.rules.proofs.Parts.{rows-table, links-run}
-use Rattle.rules.proofs.Passed.{Ready, own-link, own-quantity, own-reading, element-link, element-stop, element-quantity, point-inside}
+use Rattle.rules.specs.Ready.{Ready}
+use Rattle.rules.proofs.Passed.{own-link, own-quantity, own-reading, element-link, element-stop, element-quantity, point-inside}
 
 pub record Agree (op : Opening) (t : Tables) (s : Fresh) : Type 0 where
   pub holder : (p d : ℕ) → recordedOn 32 (rowsOf (t .holders)) p d ≡ s .holder p d

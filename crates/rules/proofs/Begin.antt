@@ -1,28 +1,27 @@
 -- An opened world is whole, agrees with fresh settlement that has heard nothing, and all its lines are 0.
-use mathlib.Core.Path.{_≡_, refl, sym, ap, _∙_}
-use Prim.Native.Nat.{ℕ, zero, suc, _+_, _*_, _≤_, _<_}
-use mathlib.Core.Bool.{Bool, true, _&&_}
-use mathlib.Core.List.{List, []}
+use mathlib.Core.Path.{_≡_, refl}
+use Prim.Native.Nat.{ℕ, _+_, _*_, _≤_}
+use mathlib.Core.Bool.{true}
+use mathlib.Core.List.{[]}
 use mathlib.Core.Option.{none}
-use lib.IntN.{ℤ, pos}
-use lib.ListN.{length, getD, replicate, length-replicate}
-use lib.Dec.{eqb, leb}
+use lib.IntN.{pos}
+use lib.ListN.{replicate, length-replicate}
+use lib.Dec.{leb}
 use borrow.Author.Tests.{eq-eqb}
 use native.Mathlib.Omega.{arith}
-use Rattle.integers.specs.Sums.{sum-zero}
+use Rattle.integers.proofs.Sums.{sum-zero}
 use Rattle.rules.specs.Basics.{within, chained, allIn, latest}
-use Rattle.rules.specs.Rows.{quantityOn, startsOn, recordedOn}
 use Rattle.rules.specs.Lines.{Measure, Terms, line}
-use Rattle.rules.specs.World.{Opening, Tables, World, tableOf, rowsOf, lineCount, energyOf, amountOf, storedAt, stored}
+use Rattle.rules.specs.World.{Opening, World, tableOf, lineCount, energyOf, amountOf, storedAt, stored}
 use Rattle.rules.specs.WellFormed.{withinLimits, rowsFit, readingCount, linePlaces, openingSized, tablesSized, linesSized, lineLimit, lineRight, linesRight, linksRight, holdersRight, statesRight, question2, question3, question4, question5}
-use Rattle.rules.specs.Effects.{ask}
 use Rattle.rules.specs.Opening.{openingAnswer, opened}
 use Rattle.rules.specs.Fresh.{nothing, freshFacts}
 use Rattle.rules.proofs.Tests.{both}
 use Rattle.rules.proofs.Ranges.{all-true, all-same, getD-same, latest-none}
 use Rattle.rules.proofs.Clauses.{quantity-nil, starts-nil, recorded-nil}
 use Rattle.rules.proofs.LineLaws.{pointLine-none}
-use Rattle.rules.proofs.Parts.{rows-table, table-right, tables-right, Whole}
+use Rattle.rules.proofs.Parts.{rows-table, table-right, tables-right}
+use Rattle.rules.specs.Whole.{Whole}
 use Rattle.rules.proofs.Passed.{asked-passed}
 use Rattle.rules.proofs.Agree.{Agree}
 

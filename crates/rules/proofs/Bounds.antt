@@ -1,14 +1,12 @@
 -- How large a line can be: each day's charge is bounded, and a line sums one for each point and day.
-use mathlib.Core.Path.{_≡_, refl}
 use Prim.Native.Nat.{ℕ, suc, _+_, _*_, _/_, _≤_, _<_}
 use mathlib.Core.Logic.{_≢_}
-use mathlib.Core.Bool.{Bool, true, false, cond}
-use lib.IntN.{ℤ, pos, negsuc, negℤ, natAbs, _*ℤ_}
+use lib.IntN.{ℤ, pos, negsuc, natAbs, _*ℤ_}
 use lib.Dec.{eqb}
 use native.Mathlib.Nat.{mul-le-mul, mul-le-mul-right, div-le-of-le-mul, le-trans}
 use native.Mathlib.Omega.{arith}
-use Rattle.integers.specs.Integers.{mul-abs, neg-abs}
-use Rattle.integers.specs.Sums.{sumTo, sum-abs}
+use Rattle.integers.proofs.Integers.{mul-abs, neg-abs}
+use Rattle.integers.proofs.Sums.{sum-abs}
 use Rattle.rules.specs.Lines.{Measure, Facts, Terms, dayPrice, energyOn, byKind, charge, chargedTo, owed, pointLine, line}
 use Rattle.rules.specs.Claim.{reachedLimit}
 use Rattle.rules.proofs.Tests.{tests, cases}

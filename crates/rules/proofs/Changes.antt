@@ -9,7 +9,8 @@ use Rattle.rules.specs.Rows.{periodFirst, periodEnd, periodQuantity, ofP
 use Rattle.rules.proofs.Tests.{tests, cases, neither, cond-same, eqb-comm}
 use Rattle.rules.proofs.Words.{first-lt, end-lt, quantity-lt, first-pack, end-pack, quantity-pack, pair-pack, pair-pack-same, pair-is, pair-other, covers-is}
 use Rattle.rules.proofs.Clauses.{quantity-nil, quantity-cons, starts-nil, starts-cons, next-cons, insert-nil, insert-cons, stop-nil, stop-cons, split-nil, split-cons}
-use Rattle.rules.proofs.Runs.{Run, done, next, linkedIn, linked-nil, linked-cons, endIn, end-cons, covered, ends-by}
+use Rattle.rules.specs.Order.{Run, done, next, linkedIn}
+use Rattle.rules.proofs.Runs.{linked-nil, linked-cons, endIn, end-cons, covered, ends-by}
 
 -- ---- a row put in
 

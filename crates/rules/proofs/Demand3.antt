@@ -1,42 +1,42 @@
--- Demand 3, whole. What holds at an opening and is kept by every message: the book is whole, its tables say what fresh settlement says, its lines are
--- what the rules give from them, and the records add up to what was sent. The claim's parts follow from that.
+-- Demand 3, whole. What holds at an opening and is kept by every message: the book is whole, its tables say what fresh settlement says, its
+-- lines are what the rules give from them, and the records add up to what was sent. The claim's parts follow from that.
 use mathlib.Core.Path.{_≡_, refl, sym, ap, ap₂, _∙_, subst}
 use Prim.Native.Nat.{ℕ, suc, _+_, _≤_, _<_}
 use mathlib.Core.Bool.{Bool, true, false, _&&_}
 use mathlib.Core.List.{List, [], _∷_, _++_, append-nil}
 use mathlib.Core.Option.{Option, none, some}
-use lib.IntN.{ℤ, pos, natAbs, _+ℤ_, _-ℤ_}
+use lib.IntN.{natAbs}
 use lib.ListN.{length}
-use lib.Dec.{T, eqb}
-use borrow.Author.Tests.{eq-eqb}
 use native.Mathlib.Nat.{le-trans}
 use native.Mathlib.Omega.{arith}
-use Rattle.integers.specs.Linear.{back-again}
-use Rattle.integers.specs.Sums.{sumTo, sum-cong}
+use Rattle.integers.proofs.Linear.{back-again}
+use Rattle.integers.specs.Sums.{sumTo}
+use Rattle.integers.proofs.Sums.{sum-cong}
 use Rattle.rules.specs.declared.Body.{Body}
-use Rattle.rules.specs.declared.Body.the-variants.{Link, Stop, Quantity, Holder, State, Reading, Block, Round}
+use Rattle.rules.specs.declared.Body.the-variants.{Round}
 use Rattle.rules.specs.declared.Message.{Message}
 use Rattle.rules.specs.declared.Record.{Record}
-use Rattle.rules.specs.Basics.{allIn, latest}
-use Rattle.rules.specs.Lines.{Measure, Facts, owedByHolder, line}
+use Rattle.rules.specs.Lines.{Measure, owedByHolder, line}
 use Rattle.rules.specs.World.{Opening, Tables, World, rowsOf, monthFirst, monthDays, termsOf, factsOf, stored, InBook}
-use Rattle.rules.specs.WellFormed.{withinLimits, rowsFit, lineLimit, elementRight, valueRight, earlier, linesRight, holdersRight, tablesRight, question2, question3, question4, question5}
+use Rattle.rules.specs.WellFormed.{withinLimits, rowsFit, lineLimit, elementRight, valueRight, earlier, linesRight, holdersRight, tablesRight, question2, question4, question5}
 use Rattle.rules.specs.Messages.{understood, bodyIn}
 use Rattle.rules.specs.Questions.{pointOf}
 use Rattle.rules.specs.Effects.{told, movedLine, movedLines, isRound, sentAfter, records, written, writtenBy, recordsOf, tablesAfter, linesAfter, posted, question17, answer, accepted, stepBy, step}
 use Rattle.rules.specs.Opening.{openingAnswer, opened}
 use Rattle.rules.specs.Queries.{lineQuery, lineNamed, named}
 use Rattle.rules.specs.Fresh.{Fresh, heard, heardBody, hear, freshFacts}
-use Rattle.rules.specs.Claim.{Event, History, advance, advanceAll, begin, reached, total, Holds, reachedLimit, Kept, Demand3}
+use Rattle.rules.specs.Claim.{Event, History, advance, advanceAll, begin, total, Holds, reachedLimit, Kept, Demand3}
 use Rattle.rules.proofs.Tests.{cases, both, is-T}
 use Rattle.rules.proofs.Ranges.{all-at, latest-high}
 use Rattle.rules.proofs.ValuesRight.{recorded-high}
-use Rattle.rules.proofs.LineLaws.{SameAt, line-cong, line-but, pointLine-none, lines-total}
+use Rattle.rules.proofs.LineLaws.{line-cong, line-but, pointLine-none, lines-total}
 use Rattle.rules.proofs.Bounds.{line-small}
 use Rattle.rules.proofs.Stored.{stored-lines, lines-right}
 use Rattle.rules.proofs.Rounds.{total-round}
-use Rattle.rules.proofs.Parts.{Limits, limits, table-each, TablesRight, tables-parts, Whole}
-use Rattle.rules.proofs.Passed.{about, round-body, Ready, Behind, behind, refused-17, Taken, taken}
+use Rattle.rules.specs.Whole.{Limits, TablesRight, Whole}
+use Rattle.rules.proofs.Parts.{limits, table-each, tables-parts}
+use Rattle.rules.proofs.Passed.{about, round-body, behind, refused-17, taken}
+use Rattle.rules.specs.Ready.{Ready}
 use Rattle.rules.proofs.Agree.{Agree, agree-told}
 use Rattle.rules.proofs.Kept.{told-right, posted-whole}
 use Rattle.rules.proofs.FreshLaws.{heard-other, same-unmoved, same-agree}
@@ -295,7 +295,7 @@ module _ (w : World) (a : openingAnswer w ≡ 0) (vs : List Event) where
         → sumTo (λ s. named m (lineQuery (x .world) (suc s) e)) (o .suppliers)
         ≡ sumTo (λ p. sumTo (λ d. owedByHolder (termsOf o) (freshFacts (x .fresh)) m p e (monthFirst o + d)) (monthDays o)) (o .points))
         (i .opening) (totals-of x (w .opening) i);
-    whole = (is-T _ (i .whole .limited), (is-T _ (i .whole .sized), (is-T _ (i .whole .elements), is-T _ (i .whole .right))));
+    whole = i .whole;
     small = subst (λ o. (m : Measure) (s e : ℕ) → InBook o s e → natAbs (named m (lineQuery (x .world) s e)) ≤ reachedLimit m) (i .opening) (small-of x (w .opening) i);
     full = λ v. subst (λ (o : Opening). (b : Message) → understood (o .suppliers) (v .fields) ≡ some b
         → answer (x .world) (v .fields) (length (v .lent)) ≡ 17 → rowsFit (tablesAfter (x .world) (b .body)) ≡ false)

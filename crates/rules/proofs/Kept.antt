@@ -1,19 +1,20 @@
 -- A book that is well formed stays so: the tables after a body that is ready are right and have their lengths, and so have the lines.
 use Prim.Native.Nat.{ℕ, _+_, _-_, _≤_, _<_, min}
-use mathlib.Core.Path.{_≡_, refl, sym, _∙_}
-use mathlib.Core.Bool.{Bool, true, false, _&&_, cond}
+use mathlib.Core.Path.{_≡_, refl}
+use mathlib.Core.Bool.{Bool, true}
 use mathlib.Core.List.{List}
 use lib.IntN.{ℤ}
-use lib.ListN.{length, set, replicate, length-append, length-replicate, length-set}
+use lib.ListN.{length, set, length-append, length-replicate, length-set}
 use lib.Dec.{leb, eqb}
 use borrow.Author.Tests.{leb-true, le-leb, eq-eqb}
 use native.Mathlib.Omega.{arith}
 use Rattle.rules.specs.declared.Body.{Body}
 use Rattle.rules.specs.declared.Body.the-variants.{Link, Stop, Quantity, Holder, State, Reading, Block, Round}
 use Rattle.rules.specs.Basics.{within, chained, allIn}
-use Rattle.rules.specs.Rows.{packPeriod, insertRow, stopRows, splitRows, packValue, recordRow}
-use Rattle.rules.specs.World.{Opening, Table, Tables, World, places, rowsOf, tableOf, kindOf}
-use Rattle.rules.specs.WellFormed.{withinLimits, rowsFit, linePlaces, openingSized, tablesSized, linesSized, periodRight, apart, valueRight, earlier, tableRight, linksRight, holdersRight, statesRight, tablesRight, linesRight, question2, question3, question4, question5}
+use Rattle.rules.specs.Rows.{packPeriod, packValue, recordRow}
+use Rattle.rules.specs.World.{Opening, Tables, World, rowsOf, tableOf}
+use Rattle.rules.specs.Sizes.{places}
+use Rattle.rules.specs.WellFormed.{withinLimits, rowsFit, openingSized, tablesSized, linesSized, periodRight, apart, valueRight, earlier, linksRight, holdersRight, statesRight, tablesRight, linesRight, question2, question3, question4, question5}
 use Rattle.rules.specs.Questions.{pointOf}
 use Rattle.rules.specs.Effects.{withLinks, withHolders, withStates, withReadings, withBlocks, linkEnd, told, movedLine, movedLines, isRound, sentAfter, tablesAfter, linesAfter, posted, question17}
 use Rattle.rules.proofs.Tests.{cases, both}
@@ -21,8 +22,10 @@ use Rattle.rules.proofs.Ranges.{all-set}
 use Rattle.rules.proofs.PeriodsRight.{packed, run-chained, run-insert, run-stop, run-split, right-pack, right-insert, right-stop, right-split}
 use Rattle.rules.proofs.ValuesRight.{record-chained, record-right, value-right}
 use Rattle.rules.proofs.Stored.{length-lines}
-use Rattle.rules.proofs.Parts.{table-ordered, table-each, table-right, TablesRight, tables-parts, tables-right, links-each, links-run, Whole}
-use Rattle.rules.proofs.Passed.{Ready, own-link, own-quantity, element-link, element-stop, element-quantity, point-inside}
+use Rattle.rules.proofs.Parts.{table-ordered, table-each, table-right, tables-right, links-each, links-run}
+use Rattle.rules.specs.Whole.{TablesRight, Whole}
+use Rattle.rules.specs.Ready.{Ready}
+use Rattle.rules.proofs.Passed.{own-link, own-quantity, element-link, element-stop, element-quantity, point-inside}
 use Rattle.rules.proofs.Agree.{link-fee, link-ends}
 
 -- ---- right tables

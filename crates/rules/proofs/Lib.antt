@@ -15,6 +15,7 @@ pub mod Stored
 pub mod Rounds
 pub mod Parts
 pub mod Passed
+pub mod BookLaws
 pub mod Agree
 pub mod Kept
 pub mod FreshLaws

@@ -6,7 +6,8 @@ use lib.IntN.{pos, _*ℤ_}
 use lib.Dec.{eqb}
 use native.Mathlib.Omega.{arith}
 use borrow.Author.Tests.{eqb-true, ne-eqb}
-use Rattle.integers.specs.Sums.{sumTo, sum-cong, sum-zero, sum-swap, sum-one}
+use Rattle.integers.specs.Sums.{sumTo}
+use Rattle.integers.proofs.Sums.{sum-cong, sum-zero, sum-swap, sum-one}
 use Rattle.rules.proofs.Tests.{cases, eqb-ne}
 use Rattle.rules.specs.Lines.{Measure, Facts, Terms, energyOn, charge, chargedTo, owed, owedByHolder, pointLine, line}
 

@@ -1,8 +1,7 @@
 -- The line query of a whole book names the stored line, in its one form.
-use mathlib.Core.Path.{_≡_, refl, sym, ap, ap₂, _∙_}
+use mathlib.Core.Path.{_≡_, refl, ap, _∙_}
 use Prim.Native.Nat.{ℕ, _+_, _-_, _*_, _<_}
 use mathlib.Core.Bool.{true, _&&_, false≢true}
-use mathlib.Core.List.{List}
 use lib.IntN.{ℤ, pos, negsuc, natAbs}
 use lib.ListN.{getD}
 use lib.Dec.{leb}
@@ -11,14 +10,14 @@ use borrow.Author.Tests.{leb-true, le-leb, lt-ltb}
 use native.Mathlib.Omega.{arith}
 use Rattle.rules.specs.Basics.{within}
 use Rattle.rules.specs.Lines.{Measure}
-use Rattle.rules.specs.World.{Opening, World, lineAt, kronerOf, billionthsOf, amountOf, storedAt, stored, InBook}
+use Rattle.rules.specs.World.{World, lineAt, kronerOf, billionthsOf, amountOf, storedAt, stored, InBook}
 use Rattle.rules.specs.WellFormed.{lineLimit, lineRight, linesRight, tablesRight, question5}
 use Rattle.rules.specs.Effects.{ask, askBook}
 use Rattle.rules.specs.Queries.{lineNumber, lineStored, lineQuery, lineNamed, named}
 use Rattle.rules.proofs.Tests.{both}
 use Rattle.rules.proofs.Ranges.{all-at}
 use Rattle.rules.proofs.Stored.{amount-back, amount-form, line-below}
-use Rattle.rules.proofs.Parts.{Whole}
+use Rattle.rules.specs.Whole.{Whole}
 
 -- what an answer names that is made of two numbers
 names : (f : Measure → ℤ) (m : Measure) → named m (lineNamed (f Measure.quantity) (f Measure.amount)) ≡ f m

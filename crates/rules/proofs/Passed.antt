@@ -4,7 +4,6 @@ use mathlib.Core.Path.{_≡_, refl, sym, _∙_, subst}
 use mathlib.Core.Logic.{_≢_}
 use mathlib.Core.Bool.{Bool, true, false, not, _&&_, _||_, cond}
 use mathlib.Core.Option.{Option, none, some}
-use lib.ListN.{length}
 use lib.Dec.{leb, ltb, eqb}
 use borrow.Author.Tests.{eqb-true, eq-eqb, leb-true, ltb-true, not-true}
 use native.Mathlib.Omega.{arith}
@@ -15,14 +14,17 @@ use Rattle.rules.specs.declared.Body.the-variants.{Link, Stop, Quantity,
 use Rattle.rules.specs.declared.Message.{Message}
 use Rattle.rules.specs.Basics.{within, when, asked}
 use Rattle.rules.specs.World.{Opening, Tables, World, rowsOf, kindOf, isTariff, linkedOn, monthFirst, monthDays}
-use Rattle.rules.specs.WellFormed.{withinLimits, rowsFit, readingCount, openingSized, tablesSized, tablesRight, question2, question3, question4, question5}
+use Rattle.rules.specs.WellFormed.{withinLimits, rowsFit, openingSized, tablesSized, tablesRight, question2, question3, question4, question5}
 use Rattle.rules.specs.Messages.{isDay, noHour, noElement, isQuantity, senderOf, bodyOf, both as bothOf, understood, bodyIn}
 use Rattle.rules.specs.Questions.{pointOf, placeOf, tariffOnce, question7, question8, question9, question10, question11, question12, question13, question15, question16, ownNumber, ownQuestion}
 use Rattle.rules.specs.Effects.{ask, question17, question18, answerTo, askBook, answer, accepted}
 use Rattle.rules.proofs.Tests.{tests, cases, both}
 use Rattle.rules.proofs.Ranges.{within-low, within-high}
-use Rattle.rules.proofs.Runs.{linkedIn, linked-quantity}
-use Rattle.rules.proofs.Parts.{Limits, limits, readings-sized, TablesRight, tables-parts, links-run, Whole}
+use Rattle.rules.specs.Order.{linkedIn}
+use Rattle.rules.proofs.Runs.{linked-quantity}
+use Rattle.rules.specs.Whole.{TablesRight, Whole}
+use Rattle.rules.proofs.Parts.{lengths, formed, links-run}
+use Rattle.rules.specs.Ready.{Ranged, Ready}
 
 -- ---- question 6: what holds of every body that fields can make
 
@@ -72,17 +74,6 @@ module _ (suppliers : ℕ) (f : Fields) (P : Body → Type 0) where
       go (some s) (some c) q h =
           let z : m ≡ record { sender = s; received = f .received; body = c } = cc in
           subst (λ (x : Message). P (x .body)) (sym z) (made-body c k q)
-
--- a body's fields, as question 6 leaves them
-abbrev pub Ranged : ℕ → Body → Type 0
-Ranged suppliers (Link p e d q) = (d < 36525) × (1 ≤ q) × (q ≤ 999)
-Ranged suppliers (Stop p e d) = d < 36525
-Ranged suppliers (Quantity p e d q) = (d < 36525) × (1 ≤ q) × (q ≤ 999)
-Ranged suppliers (Holder p d h) = (d < 36525) × (h ≤ suppliers)
-Ranged suppliers (State p d v) = (d < 36525) × (1 ≤ v) × (v ≤ 4)
-Ranged suppliers (Reading p d h n) = (d < 36525) × (h < 24) × (n ≤ 9999999)
-Ranged suppliers (Block p b) = b ≤ 1
-Ranged suppliers Round = Unit {0}
 
 module _ (suppliers : ℕ) (f : Fields) where
   -- a day, and the value's own test
@@ -181,17 +172,6 @@ module _ (o : Opening) (t : Tables) where
   unfolding question7 asked
   point-inside b p e h = ltb-true p (o .points) (rw e at h)
 
--- ---- all that a body is known by when it is told
-
-pub record Ready (o : Opening) (t : Tables) (b : Body) : Type 0 where
-  pub limited : Limits o
-  pub readings : length (t .readings) ≡ readingCount o
-  pub right : TablesRight o t
-  pub point : question7 o b ≡ true
-  pub element : question8 o b ≡ true
-  pub own : ownQuestion o t b ≡ true
-  pub range : Ranged (o .suppliers) b
-
 -- ---- an answer that no question before 17 gives
 
 -- a passed question does not give its number
@@ -222,7 +202,7 @@ pub record Behind (w : World) (f : Fields) (room k : ℕ) : Type 0 where
 
 module _ (w : World) (f : Fields) (room k : ℕ) (h : (n : ℕ) → 2 ≤ n → n ≤ 16 → n ≢ k) where
   behind-message : Whole w → (x : Option Message) → understood (w .opening .suppliers) f ≡ x → answerTo w x room ≡ k → Behind w f room k
-  unfolding answerTo question2 question3 question5
+  unfolding answerTo
   behind-message c none u e = absurd (h 6 (omega arith) (omega arith) e)
   behind-message c (some m) u e =
       let a7 = asked-passed (question7 (w .opening) (m .body)) 7 _ k (h 7 (omega arith) (omega arith)) e in
@@ -237,10 +217,9 @@ module _ (w : World) (f : Fields) (room k : ℕ) (h : (n : ℕ) → 2 ≤ n → 
         message = m;
         is = u;
         ready = record {
-          limited = limits (w .opening) (both (withinLimits (w .opening)) (rowsFit (w .position .tables)) (c .limited) .0);
-          readings = readings-sized (w .opening) (w .position .tables)
-              (both (tablesSized (w .opening) (w .position .tables)) _ (both (openingSized (w .opening)) _ (c .sized) .1) .0);
-          right = tables-parts (w .opening) (w .position .tables) (both (tablesRight (w .opening) (w .position .tables)) _ (c .right) .0);
+          limited = lengths w c .limited;
+          readings = lengths w c .readings;
+          right = formed w c .tables;
           point = a7 .0;
           element = a8 .0;
           own = own .0;

@@ -12,9 +12,10 @@ use Rattle.rules.specs.World.{Opening, kindOf}
 use Rattle.rules.specs.Basics.{within, chained, allIn}
 use Rattle.rules.specs.WellFormed.{periodRight, apart}
 use Rattle.rules.proofs.Tests.{tests, cases, both, neither}
-use Rattle.rules.proofs.Words.{from, upto, first-lt, end-lt, quantity-lt, element-lt, point-pack, element-pack, first-pack, end-pack, quantity-pack, pair-true, pair-false, from-is, from-lt, lt-from, covers-is}
+use Rattle.rules.specs.Order.{from, upto, Run, done, next, linkedIn}
+use Rattle.rules.proofs.Words.{first-lt, end-lt, quantity-lt, element-lt, point-pack, element-pack, first-pack, end-pack, quantity-pack, pair-true, pair-false, from-is, from-lt, lt-from, covers-is}
 use Rattle.rules.proofs.Clauses.{next-cons, insert-nil, insert-cons, stop-nil, stop-cons, split-nil, split-cons}
-use Rattle.rules.proofs.Runs.{Run, done, next, weaken, linkedIn, linked-cons, covered}
+use Rattle.rules.proofs.Runs.{weaken, linked-cons, covered}
 
 pub record Right (op : Opening) (r : ℕ) : Type 0 where
   pub point : periodPoint r < op .points

@@ -1,10 +1,10 @@
 -- Laws of tests over ranges and lists, of lists made by a function, and of lists of one value.
-use Prim.Native.Nat.{ℕ, zero, suc, _+_, _≤_, _<_}
+use Prim.Native.Nat.{ℕ, zero, suc, _≤_, _<_, _-_}
 use mathlib.Core.Path.{_≡_, refl, ap, ap₂, _∙_}
-use mathlib.Core.Bool.{Bool, true, false, _&&_, and-false}
-use mathlib.Core.List.{List, [], _∷_, _++_}
+use mathlib.Core.Bool.{Bool, true, false, and-false}
+use mathlib.Core.List.{List, [], _∷_}
 use mathlib.Core.Option.{Option, none, some}
-use lib.ListN.{length, getD, set, replicate, length-append, List·getD-append}
+use lib.ListN.{length, getD, set, replicate, length-append, List·getD-append, take, drop}
 use lib.Seq.{getD-at}
 use lib.Dec.{leb, eqb}
 use borrow.Author.Tests.{eqb-true, leb-true}
@@ -108,3 +108,17 @@ pub latest-high : (f : ℕ → Option ℕ) (n d : ℕ) → ((i v : ℕ) → f i 
 unfolding latest
 latest-high f n zero h = orElse-high (f zero) n 0 (h zero) (omega arith)
 latest-high f n (suc d) h = orElse-high (f (suc d)) n (latest f d) (h (suc d)) (latest-high f n d h)
+
+-- ---- parts of lists
+
+pub all-take : (f : ℕ → Bool) (n : ℕ) (xs : List ℕ) → allIn f xs ≡ true → allIn f (take n xs) ≡ true
+unfolding allIn
+all-take f zero xs h = refl
+all-take f (suc n) [] h = refl
+all-take f (suc n) (x ∷ xs) h = let k = both (f x) (allIn f xs) h in rw (k .0) (all-take f n xs (k .1))
+
+pub all-drop : (f : ℕ → Bool) (n : ℕ) (xs : List ℕ) → allIn f xs ≡ true → allIn f (drop n xs) ≡ true
+unfolding allIn
+all-drop f zero xs h = h
+all-drop f (suc n) [] h = refl
+all-drop f (suc n) (x ∷ xs) h = all-drop f n xs (both (f x) (allIn f xs) h .1)

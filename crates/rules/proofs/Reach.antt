@@ -1,10 +1,10 @@
 -- The days that a period reaches, by the rows and by the start marks.
-use Prim.Native.Nat.{ℕ, zero, suc, _+_, _-_, _≤_, _<_, min}
+use Prim.Native.Nat.{ℕ, _+_, _-_, _≤_, _<_, min}
 use mathlib.Core.Path.{_≡_, refl}
-use mathlib.Core.Bool.{Bool, true, false, and-false, or-true}
+use mathlib.Core.Bool.{true, false, or-true}
 use mathlib.Core.List.{List, [], _∷_}
 use lib.Dec.{leb, ltb, eqb}
-use borrow.Author.Tests.{eqb-true, eq-eqb}
+use borrow.Author.Tests.{eq-eqb}
 use native.Mathlib.Omega.{arith}
 use native.Mathlib.Nat.{le-refl}
 use Rattle.rules.specs.Rows.{periodFirst, ofPair, quantityOn, startsOn, nextStart}
@@ -12,7 +12,8 @@ use Rattle.rules.specs.Fresh.{noStart, goesOn}
 use Rattle.rules.proofs.Tests.{tests, cases}
 use Rattle.rules.proofs.Ranges.{all-true, all-false}
 use Rattle.rules.proofs.Clauses.{starts-nil, starts-cons, next-nil, next-cons}
-use Rattle.rules.proofs.Runs.{Run, linkedIn, linked-quantity, endIn, inside, at-end}
+use Rattle.rules.specs.Order.{Run, linkedIn}
+use Rattle.rules.proofs.Runs.{linked-quantity, endIn, inside, at-end}
 
 -- the days after a that go on from it are those before its period's end
 pub goes-on : {k : ℕ} {ws : List ℕ} (p e a d : ℕ) → Run k ws → linkedIn ws p e a ≡ true → a ≤ d

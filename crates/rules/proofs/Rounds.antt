@@ -1,20 +1,21 @@
 -- A round's records add up to what the lines have moved since the last.
 use mathlib.Core.Path.{_≡_, refl, sym, ap, _∙_}
 use Prim.Native.Nat.{ℕ, zero, suc, _+_, _-_, _*_}
-use mathlib.Core.Bool.{Bool, true, false, _&&_, cond}
-use mathlib.Core.List.{List, [], _∷_, _++_, append-nil}
+use mathlib.Core.Bool.{true, false, _&&_, cond}
+use mathlib.Core.List.{List, [], _∷_, _++_}
 use lib.IntN.{ℤ, pos, negsuc, natAbs, _+ℤ_, +ℤ-idl, +ℤ-idr, +ℤ-assoc}
 use lib.Dec.{eqb}
 use native.Mathlib.Omega.{arith}
 use borrow.Author.Tests.{eq-eqb, eqb-true}
-use Rattle.integers.specs.Linear.{back-again}
-use Rattle.integers.specs.Sums.{sumTo, sum-one}
+use Rattle.integers.proofs.Linear.{back-again}
+use Rattle.integers.specs.Sums.{sumTo}
+use Rattle.integers.proofs.Sums.{sum-one}
 use Rattle.rules.specs.declared.Record.{Record}
 use Rattle.rules.specs.Lines.{Measure}
 use Rattle.rules.specs.World.{World, lineCount, stored, InBook}
 use Rattle.rules.specs.Effects.{supplierOf, elementOf, difference, unmoved, recordOf, recordFor, recordsTo, records}
 use Rattle.rules.specs.Claim.{moves, total}
-use Rattle.rules.proofs.Tests.{tests, cases, both}
+use Rattle.rules.proofs.Tests.{cases, both}
 use Rattle.rules.proofs.Stored.{amount-back, supplier-of, element-of, line-below, line-only}
 
 natAbs-zero : (a : ℤ) → natAbs a ≡ 0 → a ≡ pos 0

@@ -1,28 +1,20 @@
 -- Periods in order and apart, as one recursion, and what they say of a day.
-use Prim.Native.Nat.{ℕ, _≤_, _<_}
+use Prim.Native.Nat.{ℕ, _≤_, _<_, _-_}
 use mathlib.Core.Path.{_≡_, refl, sym, _∙_}
-use mathlib.Core.Bool.{Bool, true, false, not, _&&_, _||_, cond, false≢true, and-false}
+use mathlib.Core.Bool.{true, false, not, _&&_, _||_, cond, false≢true, and-false, Bool}
 use mathlib.Core.List.{List, [], _∷_}
 use lib.Dec.{leb, ltb, eqb}
 use native.Mathlib.Omega.{arith}
 use Rattle.rules.specs.Rows.{periodPoint, periodElement, periodFirst, periodEnd, periodQuantity, ofPair, covers, quantityOn, startsOn}
 use Rattle.rules.proofs.Tests.{tests, cases, both}
-use Rattle.rules.proofs.Words.{from, upto, spot, pair-true, pair-is, covers-is}
+use Rattle.rules.specs.Order.{from, upto, Run, done, next, linkedIn}
+use Rattle.rules.proofs.Words.{spot, pair-true, pair-is, covers-is}
 use Rattle.rules.proofs.Clauses.{quantity-nil, quantity-cons, starts-nil, starts-cons}
-
--- the rows from k on: each starts no earlier than the one before ends, has a day and a quantity
-pub data Run : ℕ → List ℕ → Type 0 where
-  done : {k : ℕ} → Run k []
-  next : {k w : ℕ} {ws : List ℕ} → k ≤ from w → from w < upto w → 1 ≤ periodQuantity w → Run (upto w) ws → Run k (w ∷ ws)
+use Rattle.rules.specs.Basics.{keep}
 
 pub weaken : {j k : ℕ} {ws : List ℕ} → j ≤ k → Run k ws → Run j ws
 weaken h done = done
 weaken {j} h (next {w = w} a b c r) = let z : j ≤ from w = omega arith in next z b c r
-
--- does a row cover the day
-pub linkedIn : List ℕ → ℕ → ℕ → ℕ → Bool
-linkedIn [] p e d = false
-linkedIn (w ∷ ws) p e d = covers p e d w || linkedIn ws p e d
 
 pub linked-cons : (w : ℕ) (ws : List ℕ) (p e d : ℕ) → linkedIn (w ∷ ws) p e d ≡ (covers p e d w || linkedIn ws p e d)
 unfolding linkedIn
@@ -134,3 +126,12 @@ at-end p e d (next {w = w} {ws = ws} a b c r) l = cases (covers p e d w)
           simp (o, z, z′, and-false) (ih .1))
           (λ o. simp o (ih .1))),
     ))
+
+-- ---- some of the rows
+
+pub run-keep : (f : ℕ → Bool) {k : ℕ} {ws : List ℕ} → Run k ws → Run k (keep f ws)
+unfolding keep
+run-keep f Run.done = Run.done
+run-keep f (Run.next {k} {w} {ws} a b q r) = cases (f w)
+    (λ t. rw t (Run.next a b q (run-keep f r)))
+    (λ t. rw t (weaken (omega arith) (run-keep f r)))

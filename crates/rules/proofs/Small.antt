@@ -1,28 +1,27 @@
 -- The facts of right tables, and the terms of right elements, are bounded; so are the lines they give.
-use mathlib.Core.Path.{_≡_, refl, sym, ap, _∙_}
+use mathlib.Core.Path.{_≡_, refl}
 use mathlib.Core.Logic.{_≢_}
-use Prim.Native.Nat.{ℕ, suc, _+_, _*_, _≤_, _<_}
-use mathlib.Core.Bool.{Bool, true, false, not, _&&_, _||_, cond}
+use Prim.Native.Nat.{ℕ, _+_, _*_, _≤_, _<_}
+use mathlib.Core.Bool.{true, not, _&&_, _||_}
 use mathlib.Core.List.{List, [], _∷_}
-use lib.IntN.{ℤ, pos, natAbs}
+use lib.IntN.{pos, natAbs}
 use lib.ListN.{getD}
 use lib.Dec.{leb, eqb}
 use borrow.Author.Tests.{leb-true}
 use native.Mathlib.Nat.{le-trans}
 use native.Mathlib.Omega.{arith}
-use Rattle.calendar.specs.MonthLaws.{days-range}
+use Rattle.calendar.proofs.MonthLaws.{days-range}
 use Rattle.rules.specs.Basics.{within, allTo, allIn}
 use Rattle.rules.specs.Rows.{covers, quantityOn}
-use Rattle.rules.specs.Lines.{Measure}
 use Rattle.rules.specs.World.{Opening, Tables, rowsOf, monthDays, kindOf, ownerOf, marksOf, marked, passOn, tax, hourly, hoursOf, priceOf, termsOf, readingAt, energyOf, factsOf}
-use Rattle.rules.specs.WellFormed.{priceLimit, priceSize, elementRight, periodRight, lineLimit}
-use Rattle.rules.specs.Claim.{reachedLimit}
+use Rattle.rules.specs.WellFormed.{priceLimit, priceSize, elementRight, periodRight}
 use Rattle.rules.proofs.Tests.{tests, cases, both}
 use Rattle.rules.proofs.Ranges.{within-low, within-high, all-at, all-getD}
 use Rattle.rules.proofs.Clauses.{quantity-nil, quantity-cons}
-use Rattle.rules.proofs.PeriodsRight.{Right, right-of}
+use Rattle.rules.proofs.PeriodsRight.{right-of}
 use Rattle.rules.proofs.Bounds.{Bounded}
-use Rattle.rules.proofs.Parts.{Limits, TablesRight, links-each}
+use Rattle.rules.specs.Whole.{Limits, TablesRight}
+use Rattle.rules.proofs.Parts.{links-each}
 
 -- a linked quantity is that of a right row
 quantity-high : (op : Opening) (rows : List ℕ) → allIn (periodRight op) rows ≡ true → (p e d : ℕ) → quantityOn rows p e d ≤ 999

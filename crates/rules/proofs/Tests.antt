@@ -1,6 +1,6 @@
 -- Boolean tests and what they say.
 use Prim.Native.Nat.{ℕ}
-use mathlib.Core.Path.{_≡_, refl, sym, subst}
+use mathlib.Core.Path.{_≡_, refl, sym, ap₂, subst, _∙_}
 use mathlib.Core.Logic.{_≢_}
 use mathlib.Core.Bool.{Bool, true, false, _&&_, _||_, cond, false≢true}
 use lib.Dec.{leb, ltb, eqb, T}
@@ -21,6 +21,13 @@ cases false f g = g refl
 pub both : (a b : Bool) → (a && b) ≡ true → (a ≡ true) × (b ≡ true)
 both true b h = (refl, h)
 both false b h = absurd (false≢true h)
+
+-- a test of tests, each of which is what a definition says
+pub two-are : {r a b x y : Bool} → r ≡ (a && b) → a ≡ x → b ≡ y → r ≡ (x && y)
+two-are h p q = h ∙ ap₂ _&&_ p q
+
+pub three-are : {r a b c x y z : Bool} → r ≡ (a && (b && c)) → a ≡ x → b ≡ y → c ≡ z → r ≡ (x && (y && z))
+three-are h p q s = h ∙ ap₂ _&&_ p (ap₂ _&&_ q s)
 
 pub neither : (a b : Bool) → (a || b) ≡ false → (a ≡ false) × (b ≡ false)
 neither true b h = absurd (false≢true (sym h))

@@ -8,7 +8,8 @@ use lib.Dec.{ltb, eqb}
 use borrow.Author.Tests.{eqb-true, le-leb, lt-ltb, ltb-true}
 use native.Mathlib.Omega.{arith}
 use native.Mathlib.Nat.{le-refl, le-trans, le-div-iff-mul-le, div-mul-le-self}
-use Rattle.rules.specs.Rows.{endOfDays, packValue, valuePoint, valueFirst, valueOf, recordedOn, recordRow}
+use Rattle.rules.specs.Sizes.{endOfDays}
+use Rattle.rules.specs.Rows.{packValue, valuePoint, valueFirst, valueOf, recordedOn, recordRow}
 use Rattle.rules.specs.Basics.{within, chained, allIn}
 use Rattle.rules.specs.World.{Opening}
 use Rattle.rules.specs.WellFormed.{valueRight, earlier}

@@ -9,6 +9,7 @@ use native.Mathlib.Omega.{arith}
 use native.Mathlib.Nat.{mul-add-div-right, div-eq-of-lt, mul-add-mod-self-right, mod-eq-of-lt}
 use Rattle.rules.specs.Rows.{packPeriod, periodPoint, periodElement, periodFirst, periodEnd, periodQuantity, ofPair, covers, packValue, valuePoint, valueFirst, valueOf}
 use Rattle.rules.proofs.Tests.{both}
+use Rattle.rules.specs.Order.{from}
 
 -- ---- periods
 
@@ -56,13 +57,6 @@ module _ (p e a b q : ℕ) (he : e < 64) (ha : a < 65536) (hb : b < 65536) (hq :
 
   pub pair-pack-same : ofPair p e (packPeriod p e a b q) ≡ true
   pair-pack-same = rw (pair-pack p e, eq-eqb p p refl, eq-eqb e e refl)
-
--- a period as a stretch of one line: the days of each pair of point and element stand behind those of the pair before
-abbrev pub from : ℕ → ℕ
-from w = (periodPoint w * 64 + periodElement w) * 65536 + periodFirst w
-
-abbrev pub upto : ℕ → ℕ
-upto w = (periodPoint w * 64 + periodElement w) * 65536 + periodEnd w
 
 abbrev pub spot : ℕ → ℕ → ℕ → ℕ
 spot p e d = (p * 64 + e) * 65536 + d

@@ -44,7 +44,8 @@ openedBook (Opened.Refused a) = none
 
 -- a line query's number and values
 abbrev pub lineResult : LineAnswer → LineResult
-lineResult (LineAnswer.Line quantity kroner billionths) = record { number = 0; quantity = quantity; kroner = kroner; billionths = billionths }
+lineResult (LineAnswer.Line quantity kroner billionths) =
+    record { number = 0; quantity = quantity; kroner = kroner; billionths = billionths }
 lineResult (LineAnswer.Refused a) = lineRefused (numberOf a)
 
 -- what holds of the answer to the query for a day without a holder

@@ -6,7 +6,7 @@ use mathlib.Core.Option.{Option, none, some}
 use lib.Dec.{leb}
 
 -- a ≤ x ≤ b
-unfoldable pub within : ℕ → ℕ → ℕ → Bool
+unfoldable pub within : (low high x : ℕ) → Bool
 within a b x = leb a x && leb x b
 
 -- f holds of each number below n
@@ -50,11 +50,11 @@ asked test none = true
 asked test (some a) = test a
 
 -- the value, or the other where there is none
-unfoldable pub orElse : Option ℕ → ℕ → ℕ
+unfoldable pub orElse : Option ℕ → (other : ℕ) → ℕ
 orElse none other = other
 orElse (some v) other = v
 
 -- what was recorded on the latest day up to d, or 0 where nothing was
-unfoldable pub latest : (ℕ → Option ℕ) → ℕ → ℕ
+unfoldable pub latest : ((day : ℕ) → Option ℕ) → (day : ℕ) → ℕ
 latest f zero = orElse (f zero) 0
 latest f (suc d) = let earlier = latest f d in orElse (f (suc d)) earlier

@@ -12,8 +12,8 @@ use Rattle.rules.specs.Lines.{dayPrice}
 use Rattle.rules.specs.World.{World, rowsOf, tableOf}
 use Rattle.rules.specs.Effects.{answer, step}
 
--- March 2024, one point, one supplier, one subscription of the grid company's at 20,000,000: "One subscription linked from 8830, point connected
--- from 8826". Nobody holds the point, so the line is 0.
+-- March 2024, one point, one supplier, one subscription of the grid company's at 20,000,000: "One subscription linked from 8830, point
+-- connected from 8826". Nobody holds the point, so the line is 0.
 unfoldable pub firstBook : World
 firstBook =
     record {
@@ -41,7 +41,8 @@ firstBook =
 
 -- a message about point 0 and element 0 from the grid company, received 8826
 unfoldable pub message : (kind day value : ℕ) → Fields
-message kind day value = record { kind = kind; role = 1; sender = 0; received = 8826; point = 0; element = 0; day = day; hour = 0; value = value }
+message kind day value =
+    record { kind = kind; role = 1; sender = 0; received = 8826; point = 0; element = 0; day = day; hour = 0; value = value }
 
 unfoldable pub after : World → Fields → World
 after w f = step w f 0
@@ -52,8 +53,8 @@ periods [] = []
 periods (r ∷ rs) = pos (periodFirst r) ∷ pos (periodEnd r) ∷ pos (periodQuantity r) ∷ periods rs
 
 -- the answer to a message, and the periods afterwards
-unfoldable pub answered : World → Fields → List ℤ
-answered w f = pos (answer w f 0) ∷ periods (rowsOf (after w f .position .tables .links))
+unfoldable pub answerAndPeriods : World → Fields → List ℤ
+answerAndPeriods w f = pos (answer w f 0) ∷ periods (rowsOf (after w f .position .tables .links))
 
 pub record Case : Type 0 where
   pub given : List ℤ
@@ -75,22 +76,22 @@ cases =
     -- 14: 0
     ∷ record { given = dayPrice (pos 14) 30 ∷ []; stated = pos 0 ∷ [] }
     -- again on 8830: 13
-    ∷ record { given = answered firstBook (message 1 8830 1); stated = naturals (13 ∷ 8830 ∷ 36525 ∷ 1 ∷ []) }
+    ∷ record { given = answerAndPeriods firstBook (message 1 8830 1); stated = naturals (13 ∷ 8830 ∷ 36525 ∷ 1 ∷ []) }
     -- on 8829: accepted, covers 8829 alone
-    ∷ record { given = answered firstBook (message 1 8829 1); stated = naturals (0 ∷ 8829 ∷ 8830 ∷ 1 ∷ 8830 ∷ 36525 ∷ 1 ∷ []) }
+    ∷ record { given = answerAndPeriods firstBook (message 1 8829 1); stated = naturals (0 ∷ 8829 ∷ 8830 ∷ 1 ∷ 8830 ∷ 36525 ∷ 1 ∷ []) }
     -- stop on 8830: 14
-    ∷ record { given = answered firstBook (message 2 8830 0); stated = naturals (14 ∷ 8830 ∷ 36525 ∷ 1 ∷ []) }
+    ∷ record { given = answerAndPeriods firstBook (message 2 8830 0); stated = naturals (14 ∷ 8830 ∷ 36525 ∷ 1 ∷ []) }
     -- stop on 8831: leaves 8830
-    ∷ record { given = answered firstBook (message 2 8831 0); stated = naturals (0 ∷ 8830 ∷ 8831 ∷ 1 ∷ []) }
+    ∷ record { given = answerAndPeriods firstBook (message 2 8831 0); stated = naturals (0 ∷ 8830 ∷ 8831 ∷ 1 ∷ []) }
     -- after that stop: a link from 8831 is accepted
     ∷ record {
-      given = answered (after firstBook (message 2 8831 0)) (message 1 8831 1);
+      given = answerAndPeriods (after firstBook (message 2 8831 0)) (message 1 8831 1);
       stated = naturals (0 ∷ 8830 ∷ 8831 ∷ 1 ∷ 8831 ∷ 36525 ∷ 1 ∷ []);
     }
     -- quantity on 8835 splits
-    ∷ record { given = answered firstBook (message 3 8835 2); stated = naturals (0 ∷ 8830 ∷ 8835 ∷ 1 ∷ 8835 ∷ 36525 ∷ 2 ∷ []) }
+    ∷ record { given = answerAndPeriods firstBook (message 3 8835 2); stated = naturals (0 ∷ 8830 ∷ 8835 ∷ 1 ∷ 8835 ∷ 36525 ∷ 2 ∷ []) }
     -- quantity on 8829: 15
-    ∷ record { given = answered firstBook (message 3 8829 2); stated = naturals (15 ∷ 8830 ∷ 36525 ∷ 1 ∷ []) }
+    ∷ record { given = answerAndPeriods firstBook (message 3 8829 2); stated = naturals (15 ∷ 8830 ∷ 36525 ∷ 1 ∷ []) }
     ∷ []
 
 -- ---- a case holds where the two lists are the same

@@ -13,7 +13,8 @@ use Rattle.rules.specs.declared.Message.{Message}
 use Rattle.rules.specs.declared.Record.{Record}
 use Rattle.rules.specs.Lines.{Measure, owedByHolder, line}
 use Rattle.rules.specs.World.{Opening, World, monthFirst, monthDays, termsOf, amountOf, InBook}
-use Rattle.rules.specs.WellFormed.{rowsFit, question2, question3, question4, question5}
+use Rattle.rules.specs.WellFormed.{rowsFit}
+use Rattle.rules.specs.Whole.{Whole}
 use Rattle.rules.specs.Messages.{understood}
 use Rattle.rules.specs.Effects.{tablesAfter, answer, step, recordsOf}
 use Rattle.rules.specs.Opening.{openingAnswer, opened}
@@ -56,7 +57,7 @@ unfoldable pub moves : Measure → Record → ℤ
 moves Measure.quantity r = r .quantity
 moves Measure.amount r = amountOf (r .kroner) (pos (r .billionths))
 
-unfoldable pub total : Measure → ℕ → ℕ → List Record → ℤ
+unfoldable pub total : Measure → (supplier element : ℕ) → List Record → ℤ
 total m s e [] = pos 0
 total m s e (r ∷ rs) = cond (eqb (r .supplier) s && eqb (r .element) e) (moves m r) (pos 0) +ℤ total m s e rs
 
@@ -90,9 +91,10 @@ pub record Kept (w : World) (vs : List Event) : Type 0 where
   -- "an element's lines add up to what is owed point by point"
   pub totals : (m : Measure) (e : ℕ) → e < w .opening .elements
       → sumTo (λ s. named m (lineQuery (reached w vs .world) (suc s) e)) (w .opening .suppliers)
-      ≡ sumTo (λ p. sumTo (λ i. owedByHolder (termsOf (w .opening)) (freshFacts (reached w vs .fresh)) m p e (monthFirst (w .opening) + i)) (monthDays (w .opening))) (w .opening .points)
+      ≡ sumTo (λ p. sumTo (λ i. owedByHolder (termsOf (w .opening)) (freshFacts (reached w vs .fresh)) m p e (monthFirst (w .opening) + i))
+      (monthDays (w .opening))) (w .opening .points)
   -- the book stays well formed, so nothing is refused for the book's sake
-  pub whole : T (question2 (reached w vs .world)) × (T (question3 (reached w vs .world)) × (T (question4 (reached w vs .world)) × T (question5 (reached w vs .world))))
+  pub whole : Whole (reached w vs .world)
   -- "An opened book never leaves the bounds": lines stay far inside them, and 17 is said only where rows do not fit
   pub small : (m : Measure) (s e : ℕ) → InBook (w .opening) s e → natAbs (named m (lineQuery (reached w vs .world) s e)) ≤ reachedLimit m
   pub full : (v : Event) (b : Message) → understood (w .opening .suppliers) (v .fields) ≡ some b

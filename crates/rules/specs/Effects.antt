@@ -12,7 +12,8 @@ use Rattle.rules.specs.declared.Body.the-variants.{Link, Stop, Quantity,
 use Rattle.rules.specs.declared.Message.{Message}
 use Rattle.rules.specs.declared.Record.{Record}
 use Rattle.rules.specs.Basics.{listTo}
-use Rattle.rules.specs.Rows.{packPeriod, nextStart, insertRow, stopRows, splitRows, holderSize, stateSize, packValue, recordRow}
+use Rattle.rules.specs.Rows.{packPeriod, nextStart, insertRow, stopRows, splitRows, packValue, recordRow}
+use Rattle.rules.specs.Sizes.{holderSize, stateSize, lineSize}
 use Rattle.rules.specs.Lines.{Measure, fee, line}
 use Rattle.rules.specs.World.{Opening, Table, Tables, Position, Sent, World, rowsOf, tableOf, kindOf, termsOf, readingAt, factsOf, lineCount, kronerOf, billionthsOf, stored}
 use Rattle.rules.specs.WellFormed.{rowsFit, linePlaces, linesRight, question2, question3, question4, question5}
@@ -38,7 +39,7 @@ unfoldable pub withBlocks : Tables → List ℕ → Tables
 withBlocks t bs = record { links = t .links; holders = t .holders; states = t .states; readings = t .readings; blocks = bs }
 
 -- "a fee covers the given day alone; other kinds run to the element's next period on that point, or to day 36,525"
-unfoldable pub linkEnd : Opening → Tables → ℕ → ℕ → ℕ → ℕ
+unfoldable pub linkEnd : Opening → Tables → (point element day : ℕ) → ℕ
 linkEnd o t p e d = cond (eqb (kindOf o e) fee) (d + 1) (nextStart (rowsOf (t .links)) p e d)
 
 -- messages 1 to 8, in document 01's order
@@ -55,30 +56,30 @@ told o t Round = t
 -- ---- the lines after a message
 
 -- the supplier and the element of line number k: suppliers ascending, then elements
-unfoldable pub supplierOf : Opening → ℕ → ℕ
+unfoldable pub supplierOf : Opening → (lineNumber : ℕ) → ℕ
 supplierOf o k = k / o .elements + 1
 
-unfoldable pub elementOf : Opening → ℕ → ℕ
+unfoldable pub elementOf : Opening → (lineNumber : ℕ) → ℕ
 elementOf o k = k % o .elements
 
 -- the three stored numbers of a line
-unfoldable pub part : ℕ → ℤ → ℤ → ℤ
+unfoldable pub part : (place : ℕ) → (quantity amount : ℤ) → ℤ
 part k quantity amount = cond (eqb k 0) quantity (cond (eqb k 1) (kronerOf amount) (pos (billionthsOf amount)))
 
 -- the lines that a quantity and an amount for each supplier and element make
-unfoldable pub linesOf : Opening → (Measure → ℕ → ℕ → ℤ) → List ℤ
+unfoldable pub linesOf : Opening → (Measure → (supplier element : ℕ) → ℤ) → List ℤ
 linesOf o f =
-    listTo (λ i. part (i % 3)
-    (f Measure.quantity (supplierOf o (i / 3)) (elementOf o (i / 3)))
-    (f Measure.amount (supplierOf o (i / 3)) (elementOf o (i / 3))))
+    listTo (λ i. part (i % lineSize)
+    (f Measure.quantity (supplierOf o (i / lineSize)) (elementOf o (i / lineSize)))
+    (f Measure.amount (supplierOf o (i / lineSize)) (elementOf o (i / lineSize))))
     (linePlaces o)
 
 -- "A message moves a line by what the rules give after it less what they gave before."
-unfoldable pub movedLine : Opening → List ℤ → (before after : Tables) → Measure → ℕ → ℕ → ℤ
+unfoldable pub movedLine : Opening → (lines : List ℤ) → (before after : Tables) → Measure → (supplier element : ℕ) → ℤ
 movedLine o ls before after m s e =
     stored o ls m s e +ℤ (line (termsOf o) (factsOf o after) m s e -ℤ line (termsOf o) (factsOf o before) m s e)
 
-unfoldable pub movedLines : Opening → List ℤ → (before after : Tables) → List ℤ
+unfoldable pub movedLines : Opening → (lines : List ℤ) → (before after : Tables) → List ℤ
 movedLines o ls before after = linesOf o (movedLine o ls before after)
 
 -- ---- rounds
@@ -94,15 +95,15 @@ isRound (Block p b) = false
 isRound Round = true
 
 -- how far a line has moved from what was sent
-unfoldable pub difference : World → Measure → ℕ → ℕ → ℤ
+unfoldable pub difference : World → Measure → (supplier element : ℕ) → ℤ
 difference w m s e = stored (w .opening) (w .position .lines) m s e -ℤ stored (w .opening) (w .sent .totals) m s e
 
 -- "each line that differs in quantity or amount from what was sent"
-unfoldable pub unmoved : World → ℕ → ℕ → Bool
+unfoldable pub unmoved : World → (supplier element : ℕ) → Bool
 unmoved w s e = eqb (natAbs (difference w Measure.quantity s e)) 0 && eqb (natAbs (difference w Measure.amount s e)) 0
 
 -- "one record with kind (1 fixing, 2 refixing, 3 any later), supplier, element and both differences"
-unfoldable pub recordOf : World → ℕ → ℕ → Record
+unfoldable pub recordOf : World → (supplier element : ℕ) → Record
 recordOf w s e =
     record {
       kind = w .sent .round;
@@ -113,11 +114,11 @@ recordOf w s e =
       billionths = billionthsOf (difference w Measure.amount s e);
     }
 
-unfoldable pub recordFor : World → ℕ → ℕ → List Record
+unfoldable pub recordFor : World → (supplier element : ℕ) → List Record
 recordFor w s e = cond (unmoved w s e) [] (recordOf w s e ∷ [])
 
 -- "suppliers ascending, then elements": those of the first n lines
-unfoldable pub recordsTo : World → ℕ → List Record
+unfoldable pub recordsTo : World → (count : ℕ) → List Record
 recordsTo w zero = []
 recordsTo w (suc k) = recordsTo w k ++ recordFor w (supplierOf (w .opening) k) (elementOf (w .opening) k)
 
@@ -151,7 +152,7 @@ posted w b =
 -- ---- the answer: 0, or the number of the first question that fails
 
 -- "The first "no" ends it: the answer is that number"
-unfoldable pub ask : Bool → ℕ → ℕ → ℕ
+unfoldable pub ask : (passed : Bool) → (number rest : ℕ) → ℕ
 ask passed number rest = cond passed rest number
 
 -- 17: "Do periods, holders and states afterwards fit 1,024 each, and the lines their bounds?"
@@ -159,11 +160,11 @@ unfoldable pub question17 : World → Body → Bool
 question17 w b = rowsFit (tablesAfter w b) && linesRight (w .opening) (linesAfter w b)
 
 -- 18: "Round: does the list hold every record?"
-unfoldable pub question18 : World → Body → ℕ → Bool
+unfoldable pub question18 : World → Body → (room : ℕ) → Bool
 question18 w b room = leb (length (written w b)) room
 
 -- questions 6 to 18, of a message or of fields that question 6 refuses
-unfoldable pub answerTo : World → Option Message → ℕ → ℕ
+unfoldable pub answerTo : World → Option Message → (room : ℕ) → ℕ
 answerTo w none room = 6
 answerTo w (some m) room =
     ask (question7 (w .opening) (m .body)) 7
@@ -177,17 +178,17 @@ answerTo w (some m) room =
     (ask (question18 w (m .body) room) 18 0))))))))
 
 -- questions 2 to 5, which every entry point asks of the book; then the rest
-unfoldable pub askBook : World → ℕ → ℕ
+unfoldable pub askBook : World → (rest : ℕ) → ℕ
 askBook w rest = ask (question2 w) 2 (ask (question3 w) 3 (ask (question4 w) 4 (ask (question5 w) 5 rest)))
 
 -- "a message 2 to 18"; the list that is lent with it has room for so many records
-unfoldable pub answer : World → Fields → ℕ → ℕ
+unfoldable pub answer : World → Fields → (room : ℕ) → ℕ
 answer w f room = askBook w (answerTo w (understood (w .opening .suppliers) f) room)
 
 -- ---- the step
 
 -- the body of an accepted message
-unfoldable pub accepted : World → Fields → ℕ → Option Body
+unfoldable pub accepted : World → Fields → (room : ℕ) → Option Body
 accepted w f room = cond (eqb (answer w f room) 0) (bodyIn (understood (w .opening .suppliers) f)) none
 
 -- "the book and everything lent remain unchanged" by a refusal
@@ -195,7 +196,7 @@ unfoldable pub stepBy : World → Option Body → World
 stepBy w none = w
 stepBy w (some b) = posted w b
 
-unfoldable pub step : World → Fields → ℕ → World
+unfoldable pub step : World → Fields → (room : ℕ) → World
 step w f room = stepBy w (accepted w f room)
 
 unfoldable pub writtenBy : World → Option Body → List Record
@@ -203,9 +204,9 @@ writtenBy w none = []
 writtenBy w (some b) = written w b
 
 -- the records that a message writes
-unfoldable pub recordsOf : World → Fields → ℕ → List Record
+unfoldable pub recordsOf : World → Fields → (room : ℕ) → List Record
 recordsOf w f room = writtenBy w (accepted w f room)
 
 -- the lent list of records afterwards: they stand at its front, and "entries past the last one written stay as lent"
-unfoldable pub listAfter : World → Fields → List Record → List Record
+unfoldable pub listAfter : World → Fields → (lent : List Record) → List Record
 listAfter w f lent = recordsOf w f (length lent) ++ drop (length (recordsOf w f (length lent))) lent

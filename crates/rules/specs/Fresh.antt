@@ -1,5 +1,6 @@
--- Fresh settlement: "told the opening and each message with the answer that demand 2 gives it, nothing else. It keeps, per point, holders and states
--- by first day, readings by day and hour, and per element and day a quantity (0 if unlinked) and a mark where a period starts; none at first."
+-- Fresh settlement: "told the opening and each message with the answer that demand 2 gives it, nothing else. It keeps, per point, holders
+-- and states by first day, readings by day and hour, and per element and day a quantity (0 if unlinked) and a mark where a period starts;
+-- none at first."
 use Prim.Native.Nat.{ℕ, _+_, _-_}
 use mathlib.Core.Bool.{Bool, false, not, _&&_, _||_, cond}
 use mathlib.Core.Option.{Option, none, some}
@@ -8,7 +9,7 @@ use Rattle.rules.specs.declared.Fields.{Fields}
 use Rattle.rules.specs.declared.Body.{Body}
 use Rattle.rules.specs.declared.Body.the-variants.{Link, Stop, Quantity, Holder, State, Reading, Block, Round}
 use Rattle.rules.specs.Basics.{latest, allTo}
-use Rattle.rules.specs.Rows.{endOfDays}
+use Rattle.rules.specs.Sizes.{endOfDays}
 use Rattle.rules.specs.Lines.{Facts, fee}
 use Rattle.rules.specs.World.{Opening, kindOf, countingState}
 use Rattle.rules.specs.Messages.{understood, bodyIn}
@@ -25,23 +26,24 @@ nothing =
     record { holder = λ p d. none; state = λ p d. none; reading = λ p d h. 0; quantity = λ p e d. 0; start = λ p e d. false }
 
 -- are these the two numbers of the message
-unfoldable pub here : ℕ → ℕ → ℕ → ℕ → Bool
+unfoldable pub here : (a b : ℕ) → (x y : ℕ) → Bool
 here a b x y = eqb x a && eqb y b
 
 -- no period starts after day a, up to d
-unfoldable pub noStart : (ℕ → Bool) → ℕ → ℕ → Bool
+unfoldable pub noStart : (start : (day : ℕ) → Bool) → (from day : ℕ) → Bool
 noStart start a d = allTo (λ i. not (start (a + 1 + i))) (d - a)
 
--- the days that a link from a reaches: "a fee covers the given day alone; other kinds run to the element's next period on that point, or to day 36,525"
-unfoldable pub reaches : Bool → (ℕ → Bool) → ℕ → ℕ → Bool
+-- the days that a link from a reaches: "a fee covers the given day alone; other kinds run to the element's next period on that point, or to
+-- day 36,525"
+unfoldable pub reaches : (isFee : Bool) → (start : (day : ℕ) → Bool) → (from day : ℕ) → Bool
 reaches isFee start a d = cond isFee (eqb d a) (leb a d && (ltb d endOfDays && noStart start a d))
 
 -- "a period is a marked day with the linked days after it up to the next mark": the days after a, up to d, are linked and none is marked
-unfoldable pub goesOn : (ℕ → Bool) → (ℕ → ℕ) → ℕ → ℕ → Bool
+unfoldable pub goesOn : (start : (day : ℕ) → Bool) → (quantity : (day : ℕ) → ℕ) → (from day : ℕ) → Bool
 goesOn start quantity a d = allTo (λ i. not (start (a + 1 + i)) && not (eqb (quantity (a + 1 + i)) 0)) (d - a)
 
 -- other quantities and marks for one point and element
-unfoldable pub relinked : Fresh → ℕ → ℕ → (ℕ → ℕ → ℕ) → (ℕ → Bool → Bool) → Fresh
+unfoldable pub relinked : Fresh → (point element : ℕ) → (quantity : (day old : ℕ) → ℕ) → (start : (day : ℕ) → (old : Bool) → Bool) → Fresh
 relinked s p e q k =
     record {
       holder = s .holder;
@@ -51,8 +53,8 @@ relinked s p e q k =
       start = λ p′ e′ d. cond (here p e p′ e′) (k d (s .start p e d)) (s .start p′ e′ d);
     }
 
--- "Refused messages, blocks and rounds change nothing. Accepted ones of kinds 1 to 6 act as numbered above: a link or quantity marks D, a stop removes
--- the marks from D on"
+-- "Refused messages, blocks and rounds change nothing. Accepted ones of kinds 1 to 6 act as numbered above: a link or quantity marks D, a
+-- stop removes the marks from D on"
 unfoldable pub heard : Opening → Fresh → Body → Fresh
 heard o s (Link p e a q) =
     relinked s p e (λ d old. cond (reaches (eqb (kindOf o e) fee) (s .start p e) a d) q old) (λ d old. eqb d a || old)
@@ -91,7 +93,7 @@ heardBody o s none = s
 heardBody o s (some b) = heard o s b
 
 -- one message with its answer
-unfoldable pub hear : Opening → Fresh → Fields → ℕ → Fresh
+unfoldable pub hear : Opening → Fresh → Fields → (answer : ℕ) → Fresh
 hear o s f answer = heardBody o s (cond (eqb answer 0) (bodyIn (understood (o .suppliers) f)) none)
 
 -- "Its lines are the sums, by holder and element, of what points owe on the month's days"

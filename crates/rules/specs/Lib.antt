@@ -1,11 +1,16 @@
 -- The definitions of document 01, in its order: what a reader must believe.
+pub mod Sizes
 pub mod Basics
 pub mod Rows
+pub mod Order
 pub mod Lines
 pub mod World
+pub mod Lent
 pub mod WellFormed
+pub mod Whole
 pub mod Messages
 pub mod Questions
+pub mod Ready
 pub mod Effects
 pub mod Opening
 pub mod Queries

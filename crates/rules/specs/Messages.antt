@@ -10,15 +10,14 @@ use Rattle.rules.specs.declared.Body.{Body}
 use Rattle.rules.specs.declared.Body.the-variants.{Link, Stop, Quantity, Holder, State, Reading, Block, Round}
 use Rattle.rules.specs.declared.Message.{Message}
 use Rattle.rules.specs.Basics.{within, when}
-use Rattle.rules.specs.Rows.{endOfDays}
-use Rattle.rules.specs.World.{hourPlaces}
+use Rattle.rules.specs.Sizes.{endOfDays, hourPlaces, mostEnergy, mostQuantity}
 
 -- "Days 0 to 36,524"
-unfoldable pub isDay : ℕ → Bool
+unfoldable pub isDay : (day : ℕ) → Bool
 isDay d = ltb d endOfDays
 
 -- "Roles: 1 grid company, 2 Energinet, 3 supplier (with its number; else 0)"; "a supplier of the book, which a role 3 sender must be too"
-unfoldable pub senderOf : ℕ → Fields → Option Sender
+unfoldable pub senderOf : (suppliers : ℕ) → Fields → Option Sender
 senderOf suppliers f =
     cond (eqb (f .role) 1) (when (eqb (f .sender) 0) GridCompany)
     (cond (eqb (f .role) 2) (when (eqb (f .sender) 0) Energinet)
@@ -32,30 +31,32 @@ unfoldable pub noElement : Fields → Bool
 noElement f = eqb (f .element) 0 && noHour f
 
 -- "quantity 1 to 999"
-unfoldable pub isQuantity : ℕ → Bool
-isQuantity n = within 1 999 n
+unfoldable pub isQuantity : (quantity : ℕ) → Bool
+isQuantity n = within 1 mostQuantity n
 
--- "Kinds 1 to 3 use point, element and day; 4 and 5 point and day; 6 point, day and hour; 7 the point. The value is the quantity, holder, state, Wh
--- or block mark; kinds 2 and 8 have none."
-unfoldable pub bodyOf : ℕ → Fields → Option Body
+-- "Kinds 1 to 3 use point, element and day; 4 and 5 point and day; 6 point, day and hour; 7 the point. The value is the quantity, holder,
+-- state, Wh or block mark; kinds 2 and 8 have none."
+unfoldable pub bodyOf : (suppliers : ℕ) → Fields → Option Body
 bodyOf suppliers f =
     cond (eqb (f .kind) 1) (when (isDay (f .day) && (noHour f && isQuantity (f .value))) (Link (f .point) (f .element) (f .day) (f .value)))
     (cond (eqb (f .kind) 2) (when (isDay (f .day) && (noHour f && eqb (f .value) 0)) (Stop (f .point) (f .element) (f .day)))
-    (cond (eqb (f .kind) 3) (when (isDay (f .day) && (noHour f && isQuantity (f .value))) (Quantity (f .point) (f .element) (f .day) (f .value)))
+    (cond (eqb (f .kind) 3)
+    (when (isDay (f .day) && (noHour f && isQuantity (f .value))) (Quantity (f .point) (f .element) (f .day) (f .value)))
     (cond (eqb (f .kind) 4) (when (isDay (f .day) && (noElement f && leb (f .value) suppliers)) (Holder (f .point) (f .day) (f .value)))
     (cond (eqb (f .kind) 5) (when (isDay (f .day) && (noElement f && within 1 4 (f .value))) (State (f .point) (f .day) (f .value)))
     (cond (eqb (f .kind) 6)
-    (when (isDay (f .day) && (eqb (f .element) 0 && (ltb (f .hour) hourPlaces && leb (f .value) 9999999))) (Reading (f .point) (f .day) (f .hour) (f .value)))
+    (when (isDay (f .day) && (eqb (f .element) 0 && (ltb (f .hour) hourPlaces && leb (f .value) mostEnergy)))
+    (Reading (f .point) (f .day) (f .hour) (f .value)))
     (cond (eqb (f .kind) 7) (when (eqb (f .day) 0 && (noElement f && leb (f .value) 1)) (Block (f .point) (f .value)))
     (when (eqb (f .kind) 8 && (eqb (f .point) 0 && (noElement f && (eqb (f .day) 0 && eqb (f .value) 0)))) Round)))))))
 
-unfoldable pub both : ℕ → Option Sender → Option Body → Option Message
+unfoldable pub both : (received : ℕ) → Option Sender → Option Body → Option Message
 both received none b = none
 both received (some s) none = none
 both received (some s) (some b) = some (record { sender = s; received = received; body = b })
 
 -- the message, where question 6 passes
-unfoldable pub understood : ℕ → Fields → Option Message
+unfoldable pub understood : (suppliers : ℕ) → Fields → Option Message
 understood suppliers f = cond (isDay (f .received)) (both (f .received) (senderOf suppliers f) (bodyOf suppliers f)) none
 
 unfoldable pub bodyIn : Option Message → Option Body

@@ -1,4 +1,5 @@
--- Opening: "Opening asks 1 to 4", question 1 being the file's. "Opening sets lines, sent totals, readings, blocks and these tables to 0; the fixing comes next."
+-- Opening: "Opening asks 1 to 4", question 1 being the file's. "Opening sets lines, sent totals, readings, blocks and these tables to 0;
+-- the fixing comes next."
 use Prim.Native.Nat.{ℕ}
 use mathlib.Core.Bool.{cond}
 use mathlib.Core.List.{[]}

@@ -25,11 +25,11 @@ pub record LineResult : Type 0 where
 unfoldable pub lineNumber : World → (supplier element : ℕ) → ℕ
 lineNumber w s e = askBook w (ask (within 1 (w .opening .suppliers) s) 6 (ask (ltb e (w .opening .elements)) 8 0))
 
-unfoldable pub lineRefused : ℕ → LineResult
+unfoldable pub lineRefused : (number : ℕ) → LineResult
 lineRefused number = record { number = number; quantity = pos 0; kroner = pos 0; billionths = 0 }
 
 -- "it names the stored line"
-unfoldable pub lineStored : World → ℕ → LineResult
+unfoldable pub lineStored : World → (place : ℕ) → LineResult
 lineStored w i =
     record {
       number = 0;
@@ -43,7 +43,7 @@ lineQuery w s e =
     cond (eqb (lineNumber w s e) 0) (lineStored w (lineAt (w .opening) s e)) (lineRefused (lineNumber w s e))
 
 -- the answer that names a quantity and an amount
-unfoldable pub lineNamed : ℤ → ℤ → LineResult
+unfoldable pub lineNamed : (quantity amount : ℤ) → LineResult
 lineNamed quantity amount = record { number = 0; quantity = quantity; kroner = kronerOf amount; billionths = billionthsOf amount }
 
 -- the number that an answer names, in one measure

@@ -1,4 +1,5 @@
--- Questions 7 to 16, each a test of what the opening fixes, of the tables and of the message. A question that does not concern a body passes.
+-- Questions 7 to 16, each a test of what the opening fixes, of the tables and of the message. A question that does not concern a body
+-- passes.
 use Prim.Native.Nat.{ℕ, _+_, _-_}
 use mathlib.Core.Bool.{Bool, true, false, not, _&&_, _||_}
 use mathlib.Core.Option.{Option, none, some}
@@ -8,8 +9,9 @@ use Rattle.rules.specs.declared.Sender.{Sender}
 use Rattle.rules.specs.declared.Sender.the-variants.{GridCompany, Energinet, Supplier}
 use Rattle.rules.specs.declared.Body.{Body}
 use Rattle.rules.specs.declared.Body.the-variants.{Link, Stop, Quantity, Holder, State, Reading, Block, Round}
+use Rattle.rules.specs.declared.Place.{Place}
 use Rattle.rules.specs.Basics.{anyTo, asked}
-use Rattle.rules.specs.Rows.{endOfDays}
+use Rattle.rules.specs.Sizes.{endOfDays, daysAhead, gridDaysBack, supplierDaysBack}
 use Rattle.rules.specs.World.{Opening, Tables, ownerOf, marked, tax, isTariff, monthFirst, monthDays, holderOn, stateOn, linkedOn}
 
 -- the point that a message is about; a round is about none
@@ -23,12 +25,7 @@ pointOf (Reading p d h n) = some p
 pointOf (Block p b) = some p
 pointOf Round = none
 
--- what kinds 1 to 3 are about: a point, an element and the given day
-pub record Place : Type 0 where
-  pub point : ℕ
-  pub element : ℕ
-  pub day : ℕ
-
+-- what kinds 1 to 3 are about
 unfoldable pub placeOf : Body → Option Place
 placeOf (Link p e d q) = some (record { point = p; element = e; day = d })
 placeOf (Stop p e d) = some (record { point = p; element = e; day = d })
@@ -59,7 +56,7 @@ unfoldable pub question8 : Opening → Body → Bool
 question8 o b = asked (λ (l : Place). ltb (l .element) (o .elements)) (placeOf b) && tariffOnce o b
 
 -- "Block (1) or unblock (0) the point"
-unfoldable pub blocked : Tables → ℕ → Bool
+unfoldable pub blocked : Tables → (point : ℕ) → Bool
 blocked t p = eqb (getD (t .blocks) p 0) 1
 
 unfoldable pub isGridCompany : Sender → Bool
@@ -72,8 +69,8 @@ isEnerginet GridCompany = false
 isEnerginet Energinet = true
 isEnerginet (Supplier s) = false
 
--- "the grid company for its own elements, and for taxes on a blocked point; Energinet for its own; a supplier for Energinet's tariffs on an unblocked
--- point that it holds on the given day"
+-- "the grid company for its own elements, and for taxes on a blocked point; Energinet for its own; a supplier for Energinet's tariffs on an
+-- unblocked point that it holds on the given day"
 unfoldable pub mayLink : Opening → Tables → Sender → Place → Bool
 mayLink o t GridCompany l = eqb (ownerOf o (l .element)) 1 || (marked o tax (l .element) && blocked t (l .point))
 mayLink o t Energinet l = eqb (ownerOf o (l .element)) 2
@@ -96,13 +93,13 @@ unfoldable pub question9 : Opening → Tables → Sender → Body → Bool
 question9 o t from b = asked (mayLink o t from) (placeOf b) && maySend from b
 
 -- "at most 1,095 after the received day, and at most 90 (grid company) or 21 (supplier) before it. Energinet has no lower bound"
-unfoldable pub inTime : Sender → ℕ → ℕ → Bool
-inTime GridCompany received d = leb d (received + 1095) && leb received (d + 90)
-inTime Energinet received d = leb d (received + 1095)
-inTime (Supplier s) received d = leb d (received + 1095) && leb received (d + 21)
+unfoldable pub inTime : Sender → (received day : ℕ) → Bool
+inTime GridCompany received d = leb d (received + daysAhead) && leb received (d + gridDaysBack)
+inTime Energinet received d = leb d (received + daysAhead)
+inTime (Supplier s) received d = leb d (received + daysAhead) && leb received (d + supplierDaysBack)
 
 -- 10: "Kinds 1 to 3: is the day .. (E17)?"
-unfoldable pub question10 : Sender → ℕ → Body → Bool
+unfoldable pub question10 : Sender → (received : ℕ) → Body → Bool
 question10 from received b = asked (λ (l : Place). inTime from received (l .day)) (placeOf b)
 
 -- 11: "Kinds 1 to 3: does the point exist on the given day (E50)?"

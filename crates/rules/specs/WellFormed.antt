@@ -1,5 +1,5 @@
 -- Questions 2 to 5: is what was lent a book that the rules speak of.
-use Prim.Native.Nat.{ℕ, suc, _+_, _*_, _/_}
+use Prim.Native.Nat.{ℕ, suc, _+_, _-_, _*_, _/_}
 use mathlib.Core.Bool.{Bool, not, _&&_, _||_, cond}
 use mathlib.Core.List.{List}
 use lib.IntN.{ℤ, pos, natAbs}
@@ -7,16 +7,17 @@ use lib.ListN.{length, getD, drop}
 use lib.Signed.{leZ}
 use lib.Dec.{leb, ltb, eqb}
 use Rattle.rules.specs.Basics.{within, allTo, allIn, chained}
-use Rattle.rules.specs.Rows.{endOfDays, periodPoint, periodElement, periodFirst, periodEnd, periodQuantity, ofPair, holderSize, stateSize, valuePoint, valueFirst, valueOf}
+use Rattle.rules.specs.Sizes.{endOfDays, holderSize, stateSize, places, pricePlaces, hourPlaces, billion, elementSize, firstYear, lastMonth, lastYear, lineSize, mostElements, mostEnergy, mostPoints, mostPrice, mostQuantity, mostSuppliers, mostTariffPrice}
+use Rattle.rules.specs.Rows.{periodPoint, periodElement, periodFirst, periodEnd, periodQuantity, ofPair, valuePoint, valueFirst, valueOf}
 use Rattle.rules.specs.Lines.{Measure, fee, tariff}
-use Rattle.rules.specs.World.{Opening, Table, Tables, World, places, rowsOf, monthDays, kindOf, ownerOf, marksOf, marked, passOn, tax, hourly, pricePlaces, hourPlaces, lineCount, storedAt}
+use Rattle.rules.specs.World.{Opening, Table, Tables, World, rowsOf, monthDays, kindOf, ownerOf, marksOf, marked, passOn, tax, hourly, lineCount, storedAt}
 
 -- ---- 2: "Is the month within 2000 to 2099 and every count within its limit?"
 
 unfoldable pub withinLimits : Opening → Bool
 withinLimits o =
-    within 2000 2099 (o .year) && (within 1 12 (o .month)
-    && (within 1 256 (o .points) && (within 1 16 (o .suppliers) && within 1 64 (o .elements))))
+    within firstYear lastYear (o .year) && (within 1 lastMonth (o .month)
+    && (within 1 mostPoints (o .points) && (within 1 mostSuppliers (o .suppliers) && within 1 mostElements (o .elements))))
 
 -- the rows in use
 unfoldable pub rowsFit : Tables → Bool
@@ -32,17 +33,17 @@ unfoldable pub readingCount : Opening → ℕ
 readingCount o = o .points * monthDays o * hourPlaces
 
 unfoldable pub linePlaces : Opening → ℕ
-linePlaces o = lineCount o * 3
+linePlaces o = lineCount o * lineSize
 
 unfoldable pub openingSized : Opening → Bool
-openingSized o = eqb (length (o .elementData)) (o .elements * 3) && eqb (length (o .prices)) (o .elements * pricePlaces)
+openingSized o = eqb (length (o .elementData)) (o .elements * elementSize) && eqb (length (o .prices)) (o .elements * pricePlaces)
 
 unfoldable pub tablesSized : Opening → Tables → Bool
 tablesSized o t =
     eqb (length (t .links .words)) places && (eqb (length (t .holders .words)) places && (eqb (length (t .states .words)) places
     && (eqb (length (t .readings)) (readingCount o) && eqb (length (t .blocks)) (o .points))))
 
-unfoldable pub linesSized : Opening → List ℤ → Bool
+unfoldable pub linesSized : Opening → (lines : List ℤ) → Bool
 linesSized o ls = eqb (length ls) (linePlaces o)
 
 unfoldable pub question3 : World → Bool
@@ -53,50 +54,51 @@ question3 w =
 -- ---- 4: "Does each element obey the rules above?"
 
 -- "up to 9,999,999,999 in size per month or per fee, up to 9,999,999 per kWh"
-unfoldable pub priceLimit : ℕ → ℕ
-priceLimit kind = cond (eqb kind tariff) 9999999 9999999999
+unfoldable pub priceLimit : (kind : ℕ) → ℕ
+priceLimit kind = cond (eqb kind tariff) mostTariffPrice mostPrice
 
 -- the size of the price at one of an element's places
-unfoldable pub priceSize : Opening → ℕ → ℕ → ℕ
+unfoldable pub priceSize : Opening → (element place : ℕ) → ℕ
 priceSize o e h = natAbs (getD (o .prices) (e * pricePlaces + h) (pos 0))
 
--- "A fee is never passed on. Only Energinet's tariffs are taxes; only tariffs are hourly." "An hourly tariff has 24 prices, any other element
--- one, its 23 further places being 0." "other bits are question 4"
-unfoldable pub elementRight : Opening → ℕ → Bool
+-- "A fee is never passed on. Only Energinet's tariffs are taxes; only tariffs are hourly." "An hourly tariff has 24 prices, any other
+-- element one, its 23 further places being 0." "other bits are question 4"
+unfoldable pub elementRight : Opening → (element : ℕ) → Bool
 elementRight o e =
     within 1 3 (kindOf o e) && (within 1 2 (ownerOf o e) && (leb (marksOf o e) 15
     && (not (marked o passOn e && eqb (kindOf o e) fee)
     && ((not (marked o tax e) || (eqb (kindOf o e) tariff && eqb (ownerOf o e) 2))
     && ((not (marked o hourly e) || eqb (kindOf o e) tariff)
     && (allTo (λ h. leb (priceSize o e h) (priceLimit (kindOf o e))) pricePlaces
-    && (marked o hourly e || allTo (λ h. eqb (priceSize o e (suc h)) 0) 23)))))))
+    && (marked o hourly e || allTo (λ h. eqb (priceSize o e (suc h)) 0) (pricePlaces - 1))))))))
 
 unfoldable pub question4 : World → Bool
 question4 w = allTo (elementRight (w .opening)) (w .opening .elements)
 
--- ---- 5: "Is the book well formed: tables sorted without overlap or repeats, fields in range, fees one day long, tariff quantities 1, places past
--- the last 0, lines and sent totals within ±10^12 kroner and ±10^13 quantity?"
+-- ---- 5: "Is the book well formed: tables sorted without overlap or repeats, fields in range, fees one day long, tariff quantities 1,
+-- places past the last 0, lines and sent totals within ±10^12 kroner and ±10^13 quantity?"
 
-unfoldable pub periodRight : Opening → ℕ → Bool
+unfoldable pub periodRight : Opening → (row : ℕ) → Bool
 periodRight o r =
     ltb (periodPoint r) (o .points) && (ltb (periodElement r) (o .elements) && (ltb (periodFirst r) (periodEnd r)
-    && (leb (periodEnd r) endOfDays && (within 1 999 (periodQuantity r)
+    && (leb (periodEnd r) endOfDays && (within 1 mostQuantity (periodQuantity r)
     && ((not (eqb (kindOf o (periodElement r)) fee) || eqb (periodEnd r) (suc (periodFirst r)))
     && (not (eqb (kindOf o (periodElement r)) tariff) || eqb (periodQuantity r) 1))))))
 
 -- sorted, and without overlap where both are of one point and element
-unfoldable pub apart : ℕ → ℕ → Bool
+unfoldable pub apart : (row next : ℕ) → Bool
 apart r s = ltb r s && (not (ofPair (periodPoint s) (periodElement s) r) || leb (periodEnd r) (periodFirst s))
 
-unfoldable pub valueRight : ℕ → ℕ → ℕ → Opening → ℕ → Bool
-valueRight size low high o r = ltb (valuePoint size r) (o .points) && (ltb (valueFirst size r) endOfDays && within low high (valueOf size r))
+unfoldable pub valueRight : (size low high : ℕ) → Opening → (row : ℕ) → Bool
+valueRight size low high o r =
+    ltb (valuePoint size r) (o .points) && (ltb (valueFirst size r) endOfDays && within low high (valueOf size r))
 
 -- sorted by point and first day, without repeats
-unfoldable pub earlier : ℕ → ℕ → ℕ → Bool
+unfoldable pub earlier : (size row next : ℕ) → Bool
 earlier size r s = ltb (r / size) (s / size)
 
 -- a table's rows stand in order, each is right by itself, and every place past the last is 0
-unfoldable pub tableRight : (ℕ → ℕ → Bool) → (ℕ → Bool) → Table → Bool
+unfoldable pub tableRight : (order : (row next : ℕ) → Bool) → (right : (row : ℕ) → Bool) → Table → Bool
 tableRight order right t = chained order (rowsOf t) && (allIn right (rowsOf t) && allIn (λ x. eqb x 0) (drop (t .used) (t .words)))
 
 unfoldable pub linksRight : Opening → Table → Bool
@@ -111,7 +113,7 @@ statesRight o t = tableRight (earlier stateSize) (valueRight stateSize 1 4 o) t
 unfoldable pub tablesRight : Opening → Tables → Bool
 tablesRight o t =
     linksRight o (t .links) && (holdersRight o (t .holders) && (statesRight o (t .states)
-    && (allIn (λ x. leb x 9999999) (t .readings) && allIn (λ x. leb x 1) (t .blocks))))
+    && (allIn (λ x. leb x mostEnergy) (t .readings) && allIn (λ x. leb x 1) (t .blocks))))
 
 -- 10^13, and 10^12 kroner in billionths
 unfoldable pub lineLimit : Measure → ℕ
@@ -119,14 +121,14 @@ lineLimit Measure.quantity = 10000000000000
 lineLimit Measure.amount = 1000000000000000000000
 
 -- the three numbers from place i on: both measures within their limits, and the amount in its one form
-unfoldable pub lineRight : List ℤ → ℕ → Bool
+unfoldable pub lineRight : (lines : List ℤ) → (place : ℕ) → Bool
 lineRight ls i =
     leb (natAbs (storedAt ls Measure.quantity i)) (lineLimit Measure.quantity)
     && (leb (natAbs (storedAt ls Measure.amount i)) (lineLimit Measure.amount)
-    && (leZ (pos 0) (getD ls (i + 2) (pos 0)) && leZ (getD ls (i + 2) (pos 0)) (pos 999999999)))
+    && (leZ (pos 0) (getD ls (i + 2) (pos 0)) && leZ (getD ls (i + 2) (pos 0)) (pos (billion - 1))))
 
-unfoldable pub linesRight : Opening → List ℤ → Bool
-linesRight o ls = allTo (λ k. lineRight ls (k * 3)) (lineCount o)
+unfoldable pub linesRight : Opening → (lines : List ℤ) → Bool
+linesRight o ls = allTo (λ k. lineRight ls (k * lineSize)) (lineCount o)
 
 unfoldable pub question5 : World → Bool
 question5 w =

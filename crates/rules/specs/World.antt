@@ -8,7 +8,8 @@ use lib.Dec.{eqb}
 use Rattle.calendar.specs.Gregorian.{firstDay, daysOfMonth}
 use Rattle.rules.specs.declared.Book.{Book}
 use Rattle.rules.specs.Basics.{latest}
-use Rattle.rules.specs.Rows.{quantityOn, recordedOn, holderSize, stateSize}
+use Rattle.rules.specs.Rows.{quantityOn, recordedOn}
+use Rattle.rules.specs.Sizes.{holderSize, stateSize, billion, elementSize, hourPlaces, lineSize, places, pricePlaces}
 use Rattle.rules.specs.Lines.{Facts, Terms, Measure, tariff}
 
 -- ---- the parts of a world
@@ -74,7 +75,8 @@ tablesOf b links holders states readings blocks =
       blocks = blocks;
     }
 
-abbrev pub worldOf : Book → (elementData : List ℕ) (prices : List ℤ) (links holders states readings blocks : List ℕ) (lines sent : List ℤ) → World
+abbrev pub worldOf : Book → (elementData : List ℕ) (prices : List ℤ) (links holders states readings blocks : List ℕ)
+    (lines sent : List ℤ) → World
 worldOf b elementData prices links holders states readings blocks lines sent =
     record {
       opening = openingOf b elementData prices;
@@ -99,15 +101,11 @@ bookOf w =
 
 -- ---- tables of rows
 
--- "1,024 periods, 1,024 holders, 1,024 states"
-abbrev pub places : ℕ
-places = 1024
-
 unfoldable pub rowsOf : Table → List ℕ
 rowsOf t = take (t .used) (t .words)
 
 -- "places past the last period, holder or state are 0"
-unfoldable pub tableOf : List ℕ → Table
+unfoldable pub tableOf : (rows : List ℕ) → Table
 tableOf rows = record { used = length rows; words = rows ++ replicate (places - length rows) 0 }
 
 -- ---- the month and the elements
@@ -118,14 +116,14 @@ monthFirst o = firstDay (o .year) (o .month)
 unfoldable pub monthDays : Opening → ℕ
 monthDays o = daysOfMonth (o .year) (o .month)
 
-unfoldable pub kindOf : Opening → ℕ → ℕ
-kindOf o e = getD (o .elementData) (e * 3) 0
+unfoldable pub kindOf : Opening → (element : ℕ) → ℕ
+kindOf o e = getD (o .elementData) (e * elementSize) 0
 
-unfoldable pub ownerOf : Opening → ℕ → ℕ
-ownerOf o e = getD (o .elementData) (e * 3 + 1) 0
+unfoldable pub ownerOf : Opening → (element : ℕ) → ℕ
+ownerOf o e = getD (o .elementData) (e * elementSize + 1) 0
 
-unfoldable pub marksOf : Opening → ℕ → ℕ
-marksOf o e = getD (o .elementData) (e * 3 + 2) 0
+unfoldable pub marksOf : Opening → (element : ℕ) → ℕ
+marksOf o e = getD (o .elementData) (e * elementSize + 2) 0
 
 -- "marks (1 VAT, 2 pass-on, 4 tax, 8 hourly)"
 abbrev pub passOn : ℕ
@@ -137,25 +135,18 @@ tax = 4
 abbrev pub hourly : ℕ
 hourly = 8
 
-unfoldable pub marked : Opening → ℕ → ℕ → Bool
+unfoldable pub marked : Opening → (mark element : ℕ) → Bool
 marked o mark e = eqb (marksOf o e / mark % 2) 1
 
-unfoldable pub isTariff : Opening → ℕ → Bool
+unfoldable pub isTariff : Opening → (element : ℕ) → Bool
 isTariff o e = eqb (kindOf o e) tariff
 
--- "24 prices per element"
-abbrev pub pricePlaces : ℕ
-pricePlaces = 24
-
--- "Every day has 24 hours, 0 to 23": the hours of a day, and the places that the readings of a point have for it
-unfoldable pub hoursOf : ℕ → ℕ
-hoursOf d = 24
-
-abbrev pub hourPlaces : ℕ
-hourPlaces = 24
+-- "Every day has 24 hours, 0 to 23"
+unfoldable pub hoursOf : (day : ℕ) → ℕ
+hoursOf d = hourPlaces
 
 -- "An hourly tariff has 24 prices, any other element one"
-unfoldable pub priceOf : Opening → ℕ → ℕ → ℕ → ℤ
+unfoldable pub priceOf : Opening → (element day hour : ℕ) → ℤ
 priceOf o e d h = getD (o .prices) (e * pricePlaces + cond (marked o hourly e) h 0) (pos 0)
 
 unfoldable pub termsOf : Opening → Terms
@@ -172,26 +163,26 @@ termsOf o =
 -- ---- what the tables say of a day
 
 -- "Holder from D, up to the next recorded holder": 0 where nobody holds the point
-unfoldable pub holderOn : Tables → ℕ → ℕ → ℕ
+unfoldable pub holderOn : Tables → (point day : ℕ) → ℕ
 holderOn t p d = latest (recordedOn holderSize (rowsOf (t .holders)) p) d
 
 -- "State from D, likewise: 1 new, 2 connected, 3 disconnected, 4 closed. Before its first state a point does not exist": 0
-unfoldable pub stateOn : Tables → ℕ → ℕ → ℕ
+unfoldable pub stateOn : Tables → (point day : ℕ) → ℕ
 stateOn t p d = latest (recordedOn stateSize (rowsOf (t .states)) p) d
 
 -- "the state is connected or disconnected"
-unfoldable pub countingState : ℕ → Bool
+unfoldable pub countingState : (state : ℕ) → Bool
 countingState s = eqb s 2 || eqb s 3
 
-unfoldable pub linkedOn : Tables → ℕ → ℕ → ℕ → Bool
+unfoldable pub linkedOn : Tables → (point element day : ℕ) → Bool
 linkedOn t p e d = not (eqb (quantityOn (rowsOf (t .links)) p e d) 0)
 
 -- where the reading of an hour of a day of the month stands
-unfoldable pub readingAt : Opening → ℕ → ℕ → ℕ → ℕ
+unfoldable pub readingAt : Opening → (point day hour : ℕ) → ℕ
 readingAt o p d h = (p * monthDays o + (d - monthFirst o)) * hourPlaces + h
 
 -- "An hour without a reading has 0 Wh"
-unfoldable pub energyOf : Opening → Tables → ℕ → ℕ → ℕ → ℕ
+unfoldable pub energyOf : Opening → Tables → (point day hour : ℕ) → ℕ
 energyOf o t p d h = getD (t .readings) (readingAt o p d h) 0
 
 unfoldable pub factsOf : Opening → Tables → Facts
@@ -210,29 +201,29 @@ unfoldable pub lineCount : Opening → ℕ
 lineCount o = o .suppliers * o .elements
 
 -- where a line's three numbers begin
-unfoldable pub lineAt : Opening → ℕ → ℕ → ℕ
-lineAt o s e = ((s - 1) * o .elements + e) * 3
+unfoldable pub lineAt : Opening → (supplier element : ℕ) → ℕ
+lineAt o s e = ((s - 1) * o .elements + e) * lineSize
 
 -- "An amount is whole kroner and billionths from 0 to 999,999,999 that count upwards"
-unfoldable pub kronerOf : ℤ → ℤ
-kronerOf (pos n) = pos (n / 1000000000)
-kronerOf (negsuc n) = negsuc (n / 1000000000)
+unfoldable pub kronerOf : (amount : ℤ) → ℤ
+kronerOf (pos n) = pos (n / billion)
+kronerOf (negsuc n) = negsuc (n / billion)
 
-unfoldable pub billionthsOf : ℤ → ℕ
-billionthsOf (pos n) = n % 1000000000
-billionthsOf (negsuc n) = 999999999 - n % 1000000000
+unfoldable pub billionthsOf : (amount : ℤ) → ℕ
+billionthsOf (pos n) = n % billion
+billionthsOf (negsuc n) = (billion - 1) - n % billion
 
 -- the amount in billionths
-unfoldable pub amountOf : ℤ → ℤ → ℤ
-amountOf kroner billionths = kroner *ℤ pos 1000000000 +ℤ billionths
+unfoldable pub amountOf : (kroner billionths : ℤ) → ℤ
+amountOf kroner billionths = kroner *ℤ pos billion +ℤ billionths
 
 -- what is stored from place i on
-unfoldable pub storedAt : List ℤ → Measure → ℕ → ℤ
+unfoldable pub storedAt : (lines : List ℤ) → Measure → (place : ℕ) → ℤ
 storedAt ls Measure.quantity i = getD ls i (pos 0)
 storedAt ls Measure.amount i = amountOf (getD ls (i + 1) (pos 0)) (getD ls (i + 2) (pos 0))
 
 -- what is stored for a supplier and element
-unfoldable pub stored : Opening → List ℤ → Measure → ℕ → ℕ → ℤ
+unfoldable pub stored : Opening → (lines : List ℤ) → Measure → (supplier element : ℕ) → ℤ
 stored o ls m s e = storedAt ls m (lineAt o s e)
 
 -- a supplier and an element of the book

@@ -1,6 +1,109 @@
 // The types that the entry points speak, in document 01's words: the book, a message as it comes, a message understood, a record,
 // and the answers. Every definition of document 01 stands in specs/; this crate has no functions.
 
+// ---- limits and sizes
+
+pub const FIRST_YEAR: u64 = 2000;
+
+pub const LAST_YEAR: u64 = 2099;
+
+pub const LAST_MONTH: u64 = 12;
+
+pub const MOST_POINTS: u64 = 256;
+
+pub const MOST_SUPPLIERS: u64 = 16;
+
+pub const MOST_ELEMENTS: u64 = 64;
+
+// The first day after the last.
+pub const END_OF_DAYS: u64 = 36525;
+
+// Of the link, holder and state tables each.
+pub const PLACES: usize = 1024;
+
+// A supplier and an element each.
+pub const MOST_LINES: usize = 1024;
+
+// Bytes an element.
+pub const ELEMENT_SIZE: usize = 3;
+
+// Prices an element.
+pub const PRICE_PLACES: usize = 24;
+
+// Readings a point and day.
+pub const HOUR_PLACES: usize = 24;
+
+// Numbers a line: quantity, kroner, billionths.
+pub const LINE_SIZE: usize = 3;
+
+// Numbers a record: kind, supplier, element, quantity, kroner, billionths.
+pub const RECORD_SIZE: usize = 6;
+
+pub const MOST_PRICE: u64 = 9999999999;
+
+pub const MOST_TARIFF_PRICE: u64 = 9999999;
+
+pub const MOST_QUANTITY: u64 = 999;
+
+pub const MOST_ENERGY: u64 = 9999999;
+
+pub const DAYS_AHEAD: u64 = 1095;
+
+pub const GRID_DAYS_BACK: u64 = 90;
+
+pub const SUPPLIER_DAYS_BACK: u64 = 21;
+
+// ---- elements: kinds, owners, marks
+
+pub const SUBSCRIPTION: u64 = 1;
+
+pub const FEE: u64 = 2;
+
+pub const TARIFF: u64 = 3;
+
+pub const GRID_COMPANY: u64 = 1;
+
+pub const ENERGINET: u64 = 2;
+
+pub const PASS_ON: u64 = 2;
+
+pub const TAX: u64 = 4;
+
+pub const HOURLY: u64 = 8;
+
+// ---- states; a point without one does not exist
+
+pub const NOT_EXISTING: u64 = 0;
+
+pub const NEW: u64 = 1;
+
+pub const CONNECTED: u64 = 2;
+
+pub const DISCONNECTED: u64 = 3;
+
+pub const CLOSED: u64 = 4;
+
+// ---- rows as packed words: how many values a field has room for, and the word that one of it stands for
+
+pub const ELEMENT_ROOM: u64 = 64;
+
+pub const DAY_ROOM: u64 = 65536;
+
+pub const QUANTITY_ROOM: u64 = 1024;
+
+pub const END_UNIT: u64 = QUANTITY_ROOM;
+
+pub const FIRST_UNIT: u64 = END_UNIT * DAY_ROOM;
+
+pub const ELEMENT_UNIT: u64 = FIRST_UNIT * DAY_ROOM;
+
+pub const POINT_UNIT: u64 = ELEMENT_UNIT * ELEMENT_ROOM;
+
+// One more than the largest holder or state that a row has room for.
+pub const HOLDER_SIZE: u64 = 32;
+
+pub const STATE_SIZE: u64 = 8;
+
 // The book's own numbers; everything else is lent.
 pub struct Book {
     pub year: u64,
@@ -76,6 +179,13 @@ pub enum Body {
         blocked: u64,
     },
     Round,
+}
+
+// What kinds 1 to 3 are about: a point, an element and the given day.
+pub struct Place {
+    pub point: u64,
+    pub element: u64,
+    pub day: u64,
 }
 
 // A message whose fields are in range.

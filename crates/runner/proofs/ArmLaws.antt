@@ -8,20 +8,20 @@ use lib.ListN.{take, drop}
 use Rattle.rules.specs.declared.Book.{Book}
 use Rattle.rules.specs.declared.Fields.{Fields}
 use Rattle.rules.specs.World.{World}
-use Rattle.rules.proofs.Parts.{Whole}
+use Rattle.rules.specs.Whole.{Whole}
 use Rattle.queries.specs.Promises.{freshBook}
-use Rattle.wire.specs.declared.Phase.{Phase}
-use Rattle.wire.specs.declared.Found.{Found}
-use Rattle.wire.specs.declared.Found.the-variants.{Month, Element, Message, End, More, Broken}
-use Rattle.wire.specs.Lines.{refusedLine, longestLine, Written}
-use Rattle.wire.specs.Program.{endedBy, Heading, describedAll, pricesAll}
-use Rattle.wire.proofs.PlacedLaws.{loosened}
+use Rattle.file.specs.declared.fields.Phase.{Phase}
+use Rattle.file.specs.declared.fields.Found.{Found}
+use Rattle.file.specs.declared.fields.Found.the-variants.{Month, Element, Message, End, More, Broken}
+use Rattle.file.specs.Lines.{refusedLine, longestLine, Written}
+use Rattle.file.specs.Program.{endedBy, Heading, describedAll, pricesAll}
+use Rattle.file.proofs.PlacedLaws.{loosened}
 use Rattle.listing.proofs.Texts.{nothing-written}
 use Rattle.runner.specs.declared.Progress.{Progress}
 use Rattle.runner.specs.declared.Advanced.{Advanced}
 use Rattle.runner.specs.Stages.{Stage, start, elements, messages, over, quiet, broken, moveOn, isMore}
 use Rattle.runner.specs.Parts.{Lent, worldIn}
-use Rattle.runner.specs.Holding.{HoldsValues, Holds, longestText, Advances, advancedTo, waitsAt, TakesMessage}
+use Rattle.runner.specs.Holding.{HoldsValues, Represents, longestText, Advances, advancedTo, waitsAt, TakesMessage}
 use Rattle.runner.proofs.StageLaws.{never}
 
 -- the run ends with question 1
@@ -83,7 +83,7 @@ wait-move at stage (Message f next) bytes m = never (sym m)
 wait-move at stage End bytes m = never (sym m)
 wait-move at stage Broken bytes m = never (sym m)
 
-pub arm-waits : (at : ℕ) (stage : Stage) (f : Found) (bytes : List ℕ) (p : Progress) (t : Lent) (out : List ℕ) (from : ℕ) (r : Advanced) → isMore f ≡ true → Holds p t stage → r ≡ waitsAt p at from
+pub arm-waits : (at : ℕ) (stage : Stage) (f : Found) (bytes : List ℕ) (p : Progress) (t : Lent) (out : List ℕ) (from : ℕ) (r : Advanced) → isMore f ≡ true → Represents p t stage → r ≡ waitsAt p at from
     → Advances (moveOn at stage f bytes) (r .progress) t out out (r .next) from (r .written)
 arm-waits at stage f bytes p t out from r m h e = rw (wait-move at stage f bytes m, e) (record { holds = h; text = nothing-written longestText out from; place = refl })
 
@@ -99,7 +99,7 @@ elements-messages : {P : Type 0} → Phase.Elements ≡ Phase.Messages → P
 elements-messages e = let z : _≡_ {A = ℕ} 0 1 = cc in absurd (omega arith)
 
 module _ (p : Progress) (t : Lent) (o : p .over ≡ false) where
-  pub stage-start : p .phase ≡ Phase.Start → (stage : Stage) → Holds p t stage → stage ≡ start
+  pub stage-start : p .phase ≡ Phase.Start → (stage : Stage) → Represents p t stage → stage ≡ start
   stage-start e start h = refl
   stage-start e (elements g values) h = start-elements (sym e ∙ h .1)
   stage-start e (messages w n) h = start-messages (sym e ∙ h .1)
@@ -111,7 +111,7 @@ module _ (p : Progress) (t : Lent) (o : p .over ≡ false) where
     pub is : stage ≡ elements heading values
     pub holds : HoldsValues (p .book) (t .elementData) (t .prices) heading values
 
-  pub stage-elements : p .phase ≡ Phase.Elements → (stage : Stage) → Holds p t stage → InElements stage
+  pub stage-elements : p .phase ≡ Phase.Elements → (stage : Stage) → Represents p t stage → InElements stage
   stage-elements e start h = start-elements (sym (h .1) ∙ e)
   stage-elements e (elements g values) h = record { heading = g; values = values; is = refl; holds = h .2 }
   stage-elements e (messages w n) h = elements-messages (sym e ∙ h .1)
@@ -122,7 +122,7 @@ module _ (p : Progress) (t : Lent) (o : p .over ≡ false) where
     pub whole : Whole (worldIn (p .book) t)
     pub points : p .book .points ≤ 16
 
-  pub stage-messages : p .phase ≡ Phase.Messages → (stage : Stage) → Holds p t stage → InMessages stage
+  pub stage-messages : p .phase ≡ Phase.Messages → (stage : Stage) → Represents p t stage → InMessages stage
   stage-messages e start h = start-messages (sym (h .1) ∙ e)
   stage-messages e (elements g values) h = elements-messages (sym (h .1) ∙ e)
   stage-messages e (messages w n) h =

@@ -1,4 +1,5 @@
--- What the tag of a found field says of it, where the code has told its cases apart, and what the field does there. By cases. Assumes nothing.
+-- What the tag of a found field says of it, where the code has told its cases apart, and what the field does there. By cases. Assumes
+-- nothing.
 use Prim.Native.Nat.{ℕ, _+_, _≤_}
 use native.Mathlib.Omega.{arith}
 use mathlib.Core.Path.{_≡_, refl, sym}
@@ -8,11 +9,11 @@ use mathlib.Core.List.{List, [], _∷_}
 use types.Run.{OneOf}
 use denote.Enum.Declared.{tagOf}
 use Rattle.rules.specs.World.{World}
-use Rattle.wire.specs.declared.Found.{Found}
-use Rattle.wire.specs.declared.Found.the-variants.{Month, Element, Message, End, More, Broken}
-use Rattle.wire.specs.Field.{Inside}
-use Rattle.wire.specs.Program.{Heading, collected}
-use Rattle.wire.proofs.Found.{the-type}
+use Rattle.file.specs.declared.fields.Found.{Found}
+use Rattle.file.specs.declared.fields.Found.the-variants.{Month, Element, Message, End, More, Broken}
+use Rattle.file.specs.Field.{Inside}
+use Rattle.file.specs.Program.{Heading, collected}
+use Rattle.file.proofs.fields.Found.{the-type}
 use Rattle.runner.specs.Stages.{start, elements, messages, over, quiet, broken, openedTo, opening, moveOn, isMore, isEnd, opensBook}
 use Rattle.runner.proofs.StageLaws.{never}
 

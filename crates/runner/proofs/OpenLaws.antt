@@ -1,4 +1,5 @@
--- The opening: what `settle` answers is what the tables' own opening answers, and a book that opens finds them as the rules say. Assumes nothing.
+-- The opening: what `settle` answers is what the tables' own opening answers, and a book that opens finds them as the rules say. Assumes
+-- nothing.
 use Prim.Native.Nat.{ℕ, _*_, _≤_, _<_, min}
 use native.Mathlib.Omega.{arith}
 use mathlib.Core.Path.{_≡_, refl, sym, ap, _∙_}
@@ -20,19 +21,20 @@ use Rattle.rules.specs.WellFormed.{withinLimits, rowsFit, openingSized, tablesS
 use Rattle.rules.specs.Opening.{openingAnswer, opened, afterOpening}
 use Rattle.rules.specs.Effects.{ask}
 use Rattle.rules.proofs.Tests.{cases, both}
-use Rattle.rules.proofs.Parts.{Limits, limits, Whole}
+use Rattle.rules.specs.Whole.{Limits, Whole}
+use Rattle.rules.proofs.Parts.{limits}
 use Rattle.rules.proofs.Passed.{asked-passed}
 use Rattle.rules.proofs.Begin.{passed, begin-whole}
 use Rattle.queries.specs.Promises.{OpenedAs}
-use Rattle.wire.specs.declared.Phase.{Phase}
-use Rattle.wire.specs.Lines.{bookLine, refusedLine, longestLine, Written}
-use Rattle.wire.specs.Program.{endedBy, Heading, collected, lent, settleAnswer}
-use Rattle.wire.proofs.PlacedLaws.{loosened}
+use Rattle.file.specs.declared.fields.Phase.{Phase}
+use Rattle.file.specs.Lines.{bookLine, refusedLine, longestLine, Written}
+use Rattle.file.specs.Program.{endedBy, Heading, collected, lent, settleAnswer}
+use Rattle.file.proofs.PlacedLaws.{loosened}
 use Rattle.runner.specs.declared.Ends.{Ends}
 use Rattle.runner.specs.declared.Advanced.{Advanced}
 use Rattle.runner.specs.Stages.{Stage, broken, lineOf, openedTo, opening}
 use Rattle.runner.specs.Parts.{Lent, Sized, Fitted, isFitted, endsOf, worldIn, openingIn, anew}
-use Rattle.runner.specs.Holding.{HoldsValues, HoldsBook, Holds, Advances, advancedTo, OpensTables}
+use Rattle.runner.specs.Holding.{HoldsValues, HoldsBook, Represents, Advances, advancedTo, OpensTables}
 use Rattle.runner.proofs.StageLaws.{never}
 use Rattle.runner.proofs.PartLaws.{ends-fit, partsOf, after, parts-are, parts-back}
 
@@ -179,7 +181,7 @@ module _ (b : Book) (t t′ : Lent) (question : ℕ) (p : OpensTables b (opening
     abbrev Done : Type 0
     Done = Advances (opening at (collected h values) (openedTo last)) (r .progress) t′ out out′ (r .next) from (r .written)
 
-    opened-holds : (t : Lent) (w : World) (last : Bool) (at written : ℕ) → HoldsBook b t w → Holds (advancedTo Phase.Messages last b 1 at written .progress) t (openedTo last w)
+    opened-holds : (t : Lent) (w : World) (last : Bool) (at written : ℕ) → HoldsBook b t w → Represents (advancedTo Phase.Messages last b 1 at written .progress) t (openedTo last w)
     opened-holds t w true at written h = refl
     opened-holds t w false at written h = (refl, refl, h, refl)
 

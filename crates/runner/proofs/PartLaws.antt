@@ -1,4 +1,5 @@
--- The parts of the tables that a book uses: they lie within the tables, and a part that was lent on comes back as the front of its table. Assumes nothing.
+-- The parts of the tables that a book uses: they lie within the tables, and a part that was lent on comes back as the front of its table.
+-- Assumes nothing.
 use Prim.Native.Nat.{ℕ, _*_, _≤_}
 use native.Mathlib.Nat.{mul-le-mul}
 use native.Mathlib.Omega.{arith}
@@ -12,7 +13,7 @@ use lib.Seq.{length-take-le, take-at}
 use lib.Dec.{leb}
 use borrow.Author.Tests.{leb-true}
 use Rattle.calendar.specs.Gregorian.{daysOfMonth}
-use Rattle.calendar.specs.MonthLaws.{days-range}
+use Rattle.calendar.proofs.MonthLaws.{days-range}
 use Rattle.rules.specs.declared.Book.{Book}
 use Rattle.rules.specs.declared.Body.{Body}
 use Rattle.rules.specs.declared.Fields.{Fields}
@@ -22,8 +23,9 @@ use Rattle.rules.specs.WellFormed.{withinLimits, question2}
 use Rattle.rules.specs.Effects.{posted, accepted, stepBy, step}
 use Rattle.rules.proofs.Tests.{both}
 use Rattle.rules.proofs.Ranges.{within-low, within-high}
-use Rattle.rules.proofs.Parts.{limits, Whole}
-use Rattle.wire.specs.Program.{recordPlaces}
+use Rattle.rules.proofs.Parts.{limits}
+use Rattle.rules.specs.Whole.{Whole}
+use Rattle.file.specs.Program.{recordPlaces}
 use Rattle.listing.specs.declared.Printed.{Printed}
 use Rattle.listing.specs.Replies.{Texted}
 use Rattle.runner.specs.declared.Ends.{Ends}

@@ -1,5 +1,5 @@
--- A run, turn by turn: what was printed and what is still to be printed stay what was to be printed at first, and each turn takes bytes away, opens
--- the book or is the last. Assumes nothing.
+-- A run, turn by turn: what was printed and what is still to be printed stay what was to be printed at first, and each turn takes bytes
+-- away, opens the book or is the last. Assumes nothing.
 use Prim.Native.Nat.{ℕ, suc, _+_, _-_, _*_, _≤_, _<_}
 use native.Mathlib.Omega.{arith}
 use mathlib.Core.Path.{_≡_, refl, sym, ap, _∙_}
@@ -11,17 +11,17 @@ use lib.Dec.{leb, ltb, eqb}
 use borrow.Author.Tests.{leb-true, ltb-true}
 use Rattle.rules.specs.World.{Opening, World}
 use Rattle.rules.proofs.Tests.{cases, both}
-use Rattle.wire.specs.declared.Phase.{Phase}
-use Rattle.wire.specs.declared.Found.{Found}
-use Rattle.wire.specs.declared.Found.the-variants.{Month, Element, Message, End, More, Broken}
-use Rattle.wire.specs.Field.{tagOf, monthIn, fieldNamed, rightField, wholeField, fieldOf, fieldIn, fieldFrom, Inside}
-use Rattle.wire.specs.Program.{settleAnswer, collected, settled}
-use Rattle.wire.proofs.FieldLaws.{whole-rest, front-decides, Undecided, inside-in, inside-at}
+use Rattle.file.specs.declared.fields.Phase.{Phase}
+use Rattle.file.specs.declared.fields.Found.{Found}
+use Rattle.file.specs.declared.fields.Found.the-variants.{Month, Element, Message, End, More, Broken}
+use Rattle.file.specs.Field.{tagOf, monthIn, fieldNamed, rightField, wholeField, fieldOf, fieldIn, fieldFrom, Inside}
+use Rattle.file.specs.Program.{settleAnswer, collected, settled}
+use Rattle.file.proofs.FieldLaws.{whole-rest, front-decides, Undecided, inside-in, inside-at}
 use Rattle.runner.specs.declared.Progress.{Progress}
 use Rattle.runner.specs.declared.Advanced.{Advanced}
 use Rattle.runner.specs.Stages.{Stage, start, elements, messages, over, phaseOf, printed, Move, broken, openedTo, opening, moveOn, foundAt, isMore}
 use Rattle.runner.specs.Parts.{Lent, Sized}
-use Rattle.runner.specs.Holding.{Holds, Stands, longestText, lastNumber, Advances, goesOn, Reached, Stopped}
+use Rattle.runner.specs.Holding.{Represents, Stands, longestText, lastNumber, Advances, canGoOn, Reached, Stopped}
 use Rattle.runner.proofs.StageLaws.{never, move-from, next-inside, pieces}
 use Rattle.runner.proofs.ArmLaws.{wait-move}
 use Rattle.runner.proofs.ValueLaws.{placed-front}
@@ -65,8 +65,8 @@ not-true : (b : Bool) → not b ≡ true → b ≡ false
 not-true true h = never (sym h)
 not-true false h = refl
 
-pub goes-on : (p : Progress) (waits : Bool) (left : ℕ) → goesOn p waits left ≡ true → GoesOn p waits left
-unfolding goesOn
+pub goes-on : (p : Progress) (waits : Bool) (left : ℕ) → canGoOn p waits left ≡ true → GoesOn p waits left
+unfolding canGoOn
 goes-on p waits left h =
     let h1 = both (not waits) _ h in
     let h2 = both (not (p .over)) _ (h1 .1) in
@@ -89,7 +89,7 @@ weightOf (elements h values) left = suc (2 * left + 1)
 weightOf (messages w n) left = suc (2 * left + 0)
 weightOf over left = 0
 
-holds-weight : (p : Progress) (t : Lent) (stage : Stage) (left : ℕ) → Holds p t stage → weight false p left ≡ weightOf stage left
+holds-weight : (p : Progress) (t : Lent) (stage : Stage) (left : ℕ) → Represents p t stage → weight false p left ≡ weightOf stage left
 unfolding weight weightOf rank
 holds-weight p t start left h = rw (h .0, h .1)
 holds-weight p t (elements g values) left h = rw (h .0, h .1)
@@ -133,7 +133,7 @@ falls at end over f s l m k = absurd (omega arith)
 
 -- ---- a turn
 
-holds-phase : (p : Progress) (t : Lent) (stage : Stage) → p .over ≡ false → Holds p t stage → p .phase ≡ phaseOf stage
+holds-phase : (p : Progress) (t : Lent) (stage : Stage) → p .over ≡ false → Represents p t stage → p .phase ≡ phaseOf stage
 unfolding phaseOf
 holds-phase p t start o h = h .1
 holds-phase p t (elements g values) o h = h .1
@@ -147,7 +147,7 @@ pub record Running (ended : Bool) (s : List ℕ) (at : ℕ) (p₀ : Progress) (t
   pub text : written ≤ room
   pub sized : Sized t
   pub few : waits ≡ true → (ended ≡ false) × (length s - place < 198)
-  pub reached : (stage : Stage) → Holds p₀ t₀ stage → Reached ended stage (drop at s) (take written out) p t (drop place s)
+  pub reached : (stage : Stage) → Represents p₀ t₀ stage → Reached ended stage (drop at s) (take written out) p t (drop place s)
 
 pub begins : (ended : Bool) (s : List ℕ) (at : ℕ) (p : Progress) (t : Lent) (out : List ℕ) → at ≤ length s → Sized t → Running ended s at p t (length out) t out p at 0 false
 begins ended s at p t out l z =
@@ -171,7 +171,7 @@ module _ (ended : Bool) (s : List ℕ) (at : ℕ) (p₀ : Progress) (t₀ : Lent
     found = foundAt s place (p .phase) ended
 
     module _ (g : GoesOn p waits (length out - written)) (t′ : Lent) (after : List ℕ) (a : Advanced)
-        (f : (stage : Stage) → Holds p t stage → Advances (moveOn place stage found s) (a .progress) t′ out after (a .next) written (a .written))
+        (f : (stage : Stage) → Represents p t stage → Advances (moveOn place stage found s) (a .progress) t′ out after (a .next) written (a .written))
         (m : a .more ≡ isMore found)
       where
         turn : Advances (moveOn place (stands .stage) found s) (a .progress) t′ out after (a .next) written (a .written)
@@ -194,7 +194,7 @@ module _ (ended : Bool) (s : List ℕ) (at : ℕ) (p₀ : Progress) (t₀ : Lent
         text-within : a .written ≤ room
         text-within = omega (arith, turn .text .end, turn .text .short, g .room, u .long, u .text)
 
-        next-reached : (stage : Stage) → Holds p₀ t₀ stage → Reached ended stage (drop at s) (take (a .written) after) (a .progress) t′ (drop (a .next) s)
+        next-reached : (stage : Stage) → Represents p₀ t₀ stage → Reached ended stage (drop at s) (take (a .written) after) (a .progress) t′ (drop (a .next) s)
         next-reached stage h =
             let d = u .reached stage h in
             let v = f (d .stage) (d .holds) in
@@ -225,12 +225,12 @@ module _ (ended : Bool) (s : List ℕ) (at : ℕ) (p₀ : Progress) (t₀ : Lent
 -- ---- the end
 
 pub ends : (ended : Bool) (s : List ℕ) (at : ℕ) (p₀ : Progress) (t₀ : Lent) (room : ℕ) (t : Lent) (out : List ℕ) (p : Progress) (place written : ℕ) (waits : Bool)
-    → Running ended s at p₀ t₀ room t out p place written waits → goesOn p waits (length out - written) ≡ false → Stopped s ended out (record { progress = p; next = place; written = written; waits = waits })
+    → Running ended s at p₀ t₀ room t out p place written waits → canGoOn p waits (length out - written) ≡ false → Stopped s ended out (record { progress = p; next = place; written = written; waits = waits })
 ends ended s at p₀ t₀ room t out p place written waits u g = record { place = u .inside; text = omega (arith, u .long, u .text); waits = u .few; stops = g }
 
 -- ---- for callers
 
-over-silent : (p : Progress) (t : Lent) (stage : Stage) (bytes : List ℕ) → Holds p t stage → p .over ≡ true → printed stage bytes ≡ []
+over-silent : (p : Progress) (t : Lent) (stage : Stage) (bytes : List ℕ) → Represents p t stage → p .over ≡ true → printed stage bytes ≡ []
 unfolding printed
 over-silent p t start bytes h o = never (sym o ∙ h .0)
 over-silent p t (elements g values) bytes h o = never (sym o ∙ h .0)

@@ -1,5 +1,5 @@
--- One field at a time: the text that it prints and what is printed behind it are what is printed from it on. Of a whole input, and of the bytes in
--- hand, whatever follows them. By cases on the stage and the field. Assumes nothing.
+-- One field at a time: the text that it prints and what is printed behind it are what is printed from it on. Of a whole input, and of the
+-- bytes in hand, whatever follows them. By cases on the stage and the field. Assumes nothing.
 use Prim.Native.Nat.{ℕ, suc, _+_, _≤_, _<_}
 use mathlib.Core.Path.{_≡_, refl, sym, ap, _∙_}
 use mathlib.Core.Logic.{_⊎_, ⊎-elim}
@@ -11,13 +11,13 @@ use lib.Dec.{eqb}
 use native.Mathlib.Omega.{arith}
 use Rattle.rules.specs.World.{Opening, World}
 use Rattle.rules.proofs.Tests.{cases}
-use Rattle.wire.specs.declared.Phase.{Phase}
-use Rattle.wire.specs.declared.Found.{Found}
-use Rattle.wire.specs.declared.Found.the-variants.{Month, Element, Message, End, More, Broken}
-use Rattle.wire.specs.Field.{fieldOf, fieldIn, fieldFrom, Inside}
-use Rattle.wire.specs.Program.{endedBy, answered, onMessage, messagesFrom, Heading, collected, settleAnswer, openThen, onElement, elementsFrom, onMonth, settled}
-use Rattle.wire.proofs.FieldLaws.{whole-rest, front-decides, inside-in, Undecided}
-use Rattle.wire.proofs.ProgramLaws.{messages-enough, elements-enough}
+use Rattle.file.specs.declared.fields.Phase.{Phase}
+use Rattle.file.specs.declared.fields.Found.{Found}
+use Rattle.file.specs.declared.fields.Found.the-variants.{Month, Element, Message, End, More, Broken}
+use Rattle.file.specs.Field.{fieldOf, fieldIn, fieldFrom, Inside}
+use Rattle.file.specs.Program.{endedBy, answered, onMessage, messagesFrom, Heading, collected, settleAnswer, openThen, onElement, elementsFrom, onMonth, settled}
+use Rattle.file.proofs.FieldLaws.{whole-rest, front-decides, inside-in, Undecided}
+use Rattle.file.proofs.ProgramLaws.{messages-enough, elements-enough}
 use Rattle.runner.specs.Stages.{Stage, start, elements, messages, over, phaseOf, printed, Move, broken, lineOf, openedTo, opening, moveOn, isMore}
 
 -- ---- one field, where it is the one at the front of all the bytes that are left

@@ -7,9 +7,9 @@ use mathlib.Core.List.{List}
 use Rattle.rules.specs.declared.Book.{Book}
 use Rattle.rules.specs.declared.Fields.{Fields}
 use Rattle.rules.specs.World.{Opening, World}
-use Rattle.rules.proofs.Parts.{Whole}
-use Rattle.wire.specs.declared.Phase.{Phase}
-use Rattle.wire.specs.Program.{recordPlaces}
+use Rattle.rules.specs.Whole.{Whole}
+use Rattle.file.specs.declared.fields.Phase.{Phase}
+use Rattle.file.specs.Program.{recordPlaces}
 use Rattle.listing.specs.declared.Printed.{Printed}
 use Rattle.listing.specs.Replies.{Texted}
 use Rattle.runner.specs.declared.Advanced.{Advanced}

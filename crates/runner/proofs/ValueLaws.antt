@@ -9,9 +9,9 @@ use lib.Seq.{length-take-le, take-at}
 use Rattle.rules.specs.declared.Book.{Book}
 use Rattle.rules.proofs.Ranges.{length-listTo}
 use Rattle.queries.specs.Promises.{freshBook}
-use Rattle.wire.specs.Bytes.{placed}
-use Rattle.wire.specs.Element.{priceAt, pricesOf, elementBytes, elementPrices}
-use Rattle.wire.specs.Program.{Heading, describedAll, pricesAll}
+use Rattle.file.specs.Bytes.{placed}
+use Rattle.file.specs.Element.{priceAt, pricesOf, elementBytes, elementPrices}
+use Rattle.file.specs.Program.{Heading, describedAll, pricesAll}
 use Rattle.runner.specs.Holding.{HoldsValues, counted}
 
 -- the front of a list up to the end of what was placed in it

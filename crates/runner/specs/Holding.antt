@@ -11,11 +11,11 @@ use Rattle.rules.specs.declared.Fields.{Fields}
 use Rattle.rules.specs.World.{Opening, World}
 use Rattle.rules.specs.Opening.{opened}
 use Rattle.rules.specs.Effects.{step}
-use Rattle.rules.proofs.Parts.{Whole}
+use Rattle.rules.specs.Whole.{Whole}
 use Rattle.queries.specs.Promises.{freshBook}
-use Rattle.wire.specs.declared.Phase.{Phase}
-use Rattle.wire.specs.Lines.{Written}
-use Rattle.wire.specs.Program.{recordPlaces, answered, Heading, describedAll, pricesAll, lent, settleAnswer}
+use Rattle.file.specs.declared.fields.Phase.{Phase}
+use Rattle.file.specs.Lines.{Written}
+use Rattle.file.specs.Program.{recordPlaces, answered, Heading, describedAll, pricesAll, lent, settleAnswer}
 use Rattle.runner.specs.declared.Progress.{Progress}
 use Rattle.runner.specs.declared.Advanced.{Advanced}
 use Rattle.runner.specs.declared.Ran.{Ran}
@@ -35,16 +35,16 @@ pub record HoldsBook (b : Book) (t : Lent) (w : World) : Type 0 where
   pub points : b .points ≤ 16
 
 -- the numbers and the tables stand for the stage
-abbrev pub Holds : Progress → Lent → Stage → Type 0
-Holds p t start = (p .over ≡ false) × (p .phase ≡ Phase.Start)
-Holds p t (elements h values) = (p .over ≡ false) × (p .phase ≡ Phase.Elements) × HoldsValues (p .book) (t .elementData) (t .prices) h values
-Holds p t (messages w number) = (p .over ≡ false) × (p .phase ≡ Phase.Messages) × HoldsBook (p .book) t w × (p .number ≡ number)
-Holds p t over = p .over ≡ true
+abbrev pub Represents : Progress → Lent → Stage → Type 0
+Represents p t start = (p .over ≡ false) × (p .phase ≡ Phase.Start)
+Represents p t (elements h values) = (p .over ≡ false) × (p .phase ≡ Phase.Elements) × HoldsValues (p .book) (t .elementData) (t .prices) h values
+Represents p t (messages w number) = (p .over ≡ false) × (p .phase ≡ Phase.Messages) × HoldsBook (p .book) t w × (p .number ≡ number)
+Represents p t over = p .over ≡ true
 
 -- they stand for some stage
 pub record Stands (p : Progress) (t : Lent) : Type 0 where
   pub stage : Stage
-  pub holds : Holds p t stage
+  pub holds : Represents p t stage
 
 -- no field prints more than 1,024 lines
 abbrev pub longestText : ℕ
@@ -56,7 +56,7 @@ lastNumber = 18446744073709551615
 
 -- what is promised of one field: its text at a place of the output, the stage behind it and the place from which the run goes on
 pub record Advances (m : Move) (p : Progress) (t : Lent) (out after : List ℕ) (next from written : ℕ) : Type 0 where
-  pub holds : Holds p t (m .stage)
+  pub holds : Represents p t (m .stage)
   pub text : Written longestText out after from written (m .text)
   pub place : next ≡ m .next
 
@@ -101,14 +101,14 @@ pub record TakesMessage (w : World) (f : Fields) (number next : ℕ) (r : Advanc
 -- ---- a run
 
 -- another field can be taken
-unfoldable pub goesOn : Progress → (waits : Bool) (left : ℕ) → Bool
-goesOn p waits left = not waits && (not (p .over) && (ltb (p .number) lastNumber && leb longestText left))
+unfoldable pub canGoOn : Progress → (waits : Bool) (left : ℕ) → Bool
+canGoOn p waits left = not waits && (not (p .over) && (ltb (p .number) lastNumber && leb longestText left))
 
--- from a stage and the bytes behind it the run has come to another: what is printed from the first on is the text, and what is printed from the
--- second on, whatever follows the bytes in hand
+-- from a stage and the bytes behind it the run has come to another: what is printed from the first on is the text, and what is printed from
+-- the second on, whatever follows the bytes in hand
 pub record Reached (ended : Bool) (from : Stage) (front text : List ℕ) (p : Progress) (t : Lent) (left : List ℕ) : Type 0 where
   pub stage : Stage
-  pub holds : Holds p t stage
+  pub holds : Represents p t stage
   pub same : (rest : List ℕ) → (ended ≡ true → rest ≡ []) → printed from (front ++ rest) ≡ text ++ printed stage (left ++ rest)
 
 -- where it has stopped, and why
@@ -117,4 +117,4 @@ pub record Stopped (s : List ℕ) (ended : Bool) (out : List ℕ) (r : Ran) : Ty
   pub text : r .written ≤ length out
   -- more bytes are needed: the input does not end here, and fewer are left than the longest field has
   pub waits : r .waits ≡ true → (ended ≡ false) × (length s - r .next < 198)
-  pub stops : goesOn (r .progress) (r .waits) (length out - r .written) ≡ false
+  pub stops : canGoOn (r .progress) (r .waits) (length out - r .written) ≡ false

@@ -7,12 +7,12 @@ use lib.Dec.{eqb}
 use Rattle.rules.specs.World.{Opening, World, monthDays, monthFirst}
 use Rattle.rules.specs.Opening.{opened}
 use Rattle.rules.specs.Effects.{step}
-use Rattle.wire.specs.declared.Phase.{Phase}
-use Rattle.wire.specs.declared.Found.{Found}
-use Rattle.wire.specs.declared.Found.the-variants.{Month, Element, Message, End, More, Broken}
-use Rattle.wire.specs.Field.{fieldIn, fieldFrom}
-use Rattle.wire.specs.Lines.{bookLine}
-use Rattle.wire.specs.Program.{endedBy, recordPlaces, answered, messagesFrom, Heading, collected, lent, settleAnswer, elementsFrom, settled}
+use Rattle.file.specs.declared.fields.Phase.{Phase}
+use Rattle.file.specs.declared.fields.Found.{Found}
+use Rattle.file.specs.declared.fields.Found.the-variants.{Month, Element, Message, End, More, Broken}
+use Rattle.file.specs.Field.{fieldIn, fieldFrom}
+use Rattle.file.specs.Lines.{bookLine}
+use Rattle.file.specs.Program.{endedBy, recordPlaces, answered, messagesFrom, Heading, collected, lent, settleAnswer, elementsFrom, settled}
 
 -- before tag 1; after it, with the values of the elements so far; after the opening, with the number of the next message; at the end
 pub data Stage : Type 0 where

@@ -8,32 +8,33 @@ ghost use lib.IntN.{ℤ};
 ghost use lib.ListN.{length, take, drop};
 ghost use Rattle.rules.specs.World.{World};
 ghost use Rattle.rules.specs.Answers.{openedNumber};
-ghost use Rattle.rules.proofs.Parts.{Whole};
+ghost use Rattle.rules.specs.Whole.{Whole};
 ghost use Rattle.queries.specs.Promises.{freshBook};
-ghost use Rattle.wire.specs.Field.{Inside};
-ghost use Rattle.wire.specs.Lines.{longestLine};
-ghost use Rattle.wire.specs.Program.{Heading, collected};
+ghost use Rattle.file.specs.Field.{Inside};
+ghost use Rattle.file.specs.Lines.{longestLine};
+ghost use Rattle.file.specs.Program.{Heading, collected};
 ghost use Rattle.listing.specs.Replies.{Texted};
 ghost use Rattle.runner.specs.Stages.{Stage, start, elements, messages, broken, openedTo, opening, moveOn, foundAt, isMore, isEnd, opensBook};
 ghost use Rattle.runner.specs.Parts.{Lent, lentOf, Sized, Fitted, isFitted, endsOf, worldIn, openingIn};
-ghost use Rattle.runner.specs.Holding.{HoldsValues, Holds, Stands, longestText, lastNumber, Advances, advancedTo, waitsAt, goesOn, Reached, Stopped, OpensTables, counted, TakesMessage};
+ghost use Rattle.runner.specs.Holding.{HoldsValues, Represents, Stands, longestText, lastNumber, Advances, advancedTo, waitsAt, canGoOn, Reached, Stopped, OpensTables, counted, TakesMessage};
+ghost use Rattle.rules.specs.Lent.{left, was};
 use calendar::days_in_month;
 use calendar::listed_first_day;
-use intake::all_three;
-use intake::is_within;
+use file::fields::Found;
+use file::fields::Phase;
+use file::fields::read_element;
+use file::output::put_book;
+use file::output::put_refused;
+use file::reader::find;
 use listing::Printed;
 use listing::message_printed;
-use messages::number;
+use pricing::is_within;
 use queries::open;
-use reader::find;
 use rules::Book;
 use rules::Fields;
 use rules::Opened;
-use wire::Found;
-use wire::Phase;
-use wire::put_book;
-use wire::put_refused;
-use wire::read_element;
+use validation::fields::all_three;
+use validation::questions::number;
 
 // How far a run has come.
 pub struct Progress {
@@ -110,7 +111,7 @@ fn open_tables(
     sent: &mut [i64],
 ) -> u64
     requires { ⌜ Sized (lentOf (now element_data) (now prices) (now links) (now holders) (now states) (now readings) (now blocks) (now lines) (now sent)) ⌝ }
-    ensures { λ r. ⌜ OpensTables book (openingIn book (lentOf (now (element_data .entry)) (now (prices .entry)) (now (links .entry)) (now (holders .entry)) (now (states .entry)) (now (readings .entry)) (now (blocks .entry)) (now (lines .entry)) (now (sent .entry)))) (lentOf (now (element_data .entry)) (now (prices .entry)) (now (links .exit)) (now (holders .exit)) (now (states .exit)) (now (readings .exit)) (now (blocks .exit)) (now (lines .exit)) (now (sent .exit))) r ⌝ }
+    ensures { λ r. ⌜ OpensTables book (openingIn book (lentOf (was element_data) (was prices) (was links) (was holders) (was states) (was readings) (was blocks) (was lines) (was sent))) (lentOf (was element_data) (was prices) (left links) (left holders) (left states) (left readings) (left blocks) (left lines) (left sent)) r ⌝ }
 {
     if is_fitted(book) {
         let ends = ends_of(book);
@@ -187,7 +188,7 @@ fn open_book(
     from: usize,
 ) -> Advanced
     requires { ⌜ Sized (lentOf (now element_data) (now prices) (now links) (now holders) (now states) (now readings) (now blocks) (now lines) (now sent)) × (from + longestLine ≤ length (now out)) ⌝ }
-    ensures { λ r. ⌜ ((h : Heading) (values : List (List ℕ)) → HoldsValues book (now (element_data .entry)) (now (prices .entry)) h values → Advances (opening at (collected h values) (openedTo last)) (r .progress) (lentOf (now (element_data .entry)) (now (prices .entry)) (now (links .exit)) (now (holders .exit)) (now (states .exit)) (now (readings .exit)) (now (blocks .exit)) (now (lines .exit)) (now (sent .exit))) (now (out .entry)) (now (out .exit)) (r .next) from (r .written)) × (r .more ≡ false) ⌝ }
+    ensures { λ r. ⌜ ((h : Heading) (values : List (List ℕ)) → HoldsValues book (was element_data) (was prices) h values → Advances (opening at (collected h values) (openedTo last)) (r .progress) (lentOf (was element_data) (was prices) (left links) (left holders) (left states) (left readings) (left blocks) (left lines) (left sent)) (was out) (left out) (r .next) from (r .written)) × (r .more ≡ false) ⌝ }
 {
     let question = open_tables(
         book,
@@ -233,7 +234,7 @@ fn text_in_parts(
 ) -> Printed
     requires { ⌜ Sized (lentOf (now element_data) (now prices) (now links) (now holders) (now states) (now readings) (now blocks) (now lines) (now sent)) × (from + longestText ≤ length (now out)) ⌝ }
     requires { ⌜ Whole (worldIn book (lentOf (now element_data) (now prices) (now links) (now holders) (now states) (now readings) (now blocks) (now lines) (now sent))) × (book .points ≤ 16) ⌝ }
-    ensures { λ r. ⌜ Texted (worldIn book (lentOf (now (element_data .entry)) (now (prices .entry)) (now (links .entry)) (now (holders .entry)) (now (states .entry)) (now (readings .entry)) (now (blocks .entry)) (now (lines .entry)) (now (sent .entry)))) (worldIn (r .reply .book) (lentOf (now (element_data .entry)) (now (prices .entry)) (now (links .exit)) (now (holders .exit)) (now (states .exit)) (now (readings .exit)) (now (blocks .exit)) (now (lines .exit)) (now (sent .exit)))) fields message r (now (out .entry)) (now (out .exit)) from × Whole (worldIn (r .reply .book) (lentOf (now (element_data .entry)) (now (prices .entry)) (now (links .exit)) (now (holders .exit)) (now (states .exit)) (now (readings .exit)) (now (blocks .exit)) (now (lines .exit)) (now (sent .exit)))) ⌝ }
+    ensures { λ r. ⌜ Texted (worldIn book (lentOf (was element_data) (was prices) (was links) (was holders) (was states) (was readings) (was blocks) (was lines) (was sent))) (worldIn (r .reply .book) (lentOf (was element_data) (was prices) (left links) (left holders) (left states) (left readings) (left blocks) (left lines) (left sent))) fields message r (was out) (left out) from × Whole (worldIn (r .reply .book) (lentOf (was element_data) (was prices) (left links) (left holders) (left states) (left readings) (left blocks) (left lines) (left sent))) ⌝ }
 {
     let ends = ends_of(book);
     let described = ends.described;
@@ -259,7 +260,8 @@ fn text_in_parts(
     )
 }
 
-// A message of an open book: its records or the refusal are printed, and its number is done with. The caller sees to it that there is a next number.
+// A message of an open book: its records or the refusal are printed, and its number is done with. The caller sees to it that there is a
+// next number.
 fn take_message(
     book: Book,
     message: u64,
@@ -279,7 +281,7 @@ fn take_message(
 ) -> Advanced
     requires { ⌜ Sized (lentOf (now element_data) (now prices) (now links) (now holders) (now states) (now readings) (now blocks) (now lines) (now sent)) × (from + longestText ≤ length (now out)) × (message < lastNumber) ⌝ }
     requires { ⌜ Whole (worldIn book (lentOf (now element_data) (now prices) (now links) (now holders) (now states) (now readings) (now blocks) (now lines) (now sent))) × (book .points ≤ 16) ⌝ }
-    ensures { λ r. ⌜ TakesMessage (worldIn book (lentOf (now (element_data .entry)) (now (prices .entry)) (now (links .entry)) (now (holders .entry)) (now (states .entry)) (now (readings .entry)) (now (blocks .entry)) (now (lines .entry)) (now (sent .entry)))) fields message next r (lentOf (now (element_data .entry)) (now (prices .entry)) (now (links .exit)) (now (holders .exit)) (now (states .exit)) (now (readings .exit)) (now (blocks .exit)) (now (lines .exit)) (now (sent .exit))) (now (out .entry)) (now (out .exit)) from × (r .more ≡ false) ⌝ }
+    ensures { λ r. ⌜ TakesMessage (worldIn book (lentOf (was element_data) (was prices) (was links) (was holders) (was states) (was readings) (was blocks) (was lines) (was sent))) fields message next r (lentOf (was element_data) (was prices) (left links) (left holders) (left states) (left readings) (left blocks) (left lines) (left sent)) (was out) (left out) from × (r .more ≡ false) ⌝ }
 {
     let printed = text_in_parts(
         book,
@@ -308,7 +310,7 @@ fn take_message(
 // The run ends with question 1.
 fn refuse(book: Book, at: usize, out: &mut [u8], from: usize) -> Advanced
     requires { ⌜ from + longestLine ≤ length (now out) ⌝ }
-    ensures { λ r. ⌜ ((t : Lent) → Advances (broken at 1) (r .progress) t (now (out .entry)) (now (out .exit)) (r .next) from (r .written)) × (r .more ≡ false) ⌝ }
+    ensures { λ r. ⌜ ((t : Lent) → Advances (broken at 1) (r .progress) t (was out) (left out) (r .next) from (r .written)) × (r .more ≡ false) ⌝ }
 {
     let written = put_refused(out, from, 0, 1);
     moved(Phase::Messages, true, book, 1, at, written)
@@ -332,7 +334,7 @@ fn month_book(year: u64, month: u64, points: u64, suppliers: u64) -> Book
 
 fn on_start(book: Book, found: Found, at: usize, out: &mut [u8], from: usize) -> Advanced
     requires { ⌜ (from + longestLine ≤ length (now out)) × (isMore found ≡ false) ⌝ }
-    ensures { λ r. ⌜ ((t : Lent) (bytes : List ℕ) → Advances (moveOn at start found bytes) (r .progress) t (now (out .entry)) (now (out .exit)) (r .next) from (r .written)) × (r .more ≡ false) ⌝ }
+    ensures { λ r. ⌜ ((t : Lent) (bytes : List ℕ) → Advances (moveOn at start found bytes) (r .progress) t (was out) (left out) (r .next) from (r .written)) × (r .more ≡ false) ⌝ }
 {
     let Found::Month {
         year,
@@ -377,7 +379,7 @@ fn take_element(
     prices: &mut [i64],
 ) -> Book
     requires { ⌜ (start + size ≤ length (now s)) × (3 ≤ size) × (length (now element_data) ≡ 192) × (length (now prices) ≡ 1536) ⌝ }
-    ensures { λ r. ⌜ ((h : Heading) (values : List (List ℕ)) → HoldsValues book (now (element_data .entry)) (now (prices .entry)) h values → HoldsValues r (now (element_data .exit)) (now (prices .exit)) h (values ++ (take size (drop start (now (s .entry))) ∷ []))) ⌝ }
+    ensures { λ r. ⌜ ((h : Heading) (values : List (List ℕ)) → HoldsValues book (was element_data) (was prices) h values → HoldsValues r (left element_data) (left prices) h (values ++ (take size (drop start (was s)) ∷ []))) ⌝ }
 {
     if book.elements < 64 {
         let e = book.elements as usize;
@@ -424,7 +426,7 @@ fn gather(
 ) -> Advanced
     requires { ⌜ (length (now element_data) ≡ 192) × (length (now prices) ≡ 1536) × (from + longestLine ≤ length (now out)) ⌝ }
     requires { ⌜ Inside at (length (now s)) found × (isMore found ≡ false) × (opensBook found ≡ false) ⌝ }
-    ensures { λ r. ⌜ ((h : Heading) (values : List (List ℕ)) (links holders states readings blocks : List ℕ) (lines sent : List ℤ) → HoldsValues book (now (element_data .entry)) (now (prices .entry)) h values → Advances (moveOn at (elements h values) found (now (s .entry))) (r .progress) (lentOf (now (element_data .exit)) (now (prices .exit)) links holders states readings blocks lines sent) (now (out .entry)) (now (out .exit)) (r .next) from (r .written)) × (r .more ≡ false) ⌝ }
+    ensures { λ r. ⌜ ((h : Heading) (values : List (List ℕ)) (links holders states readings blocks : List ℕ) (lines sent : List ℤ) → HoldsValues book (was element_data) (was prices) h values → Advances (moveOn at (elements h values) found (was s)) (r .progress) (lentOf (left element_data) (left prices) links holders states readings blocks lines sent) (was out) (left out) (r .next) from (r .written)) × (r .more ≡ false) ⌝ }
 {
     let Found::Element {
         start,
@@ -457,7 +459,7 @@ fn on_elements(
 ) -> Advanced
     requires { ⌜ Sized (lentOf (now element_data) (now prices) (now links) (now holders) (now states) (now readings) (now blocks) (now lines) (now sent)) × (from + longestLine ≤ length (now out)) ⌝ }
     requires { ⌜ Inside at (length (now s)) found × (isMore found ≡ false) ⌝ }
-    ensures { λ r. ⌜ ((h : Heading) (values : List (List ℕ)) → HoldsValues book (now (element_data .entry)) (now (prices .entry)) h values → Advances (moveOn at (elements h values) found (now (s .entry))) (r .progress) (lentOf (now (element_data .exit)) (now (prices .exit)) (now (links .exit)) (now (holders .exit)) (now (states .exit)) (now (readings .exit)) (now (blocks .exit)) (now (lines .exit)) (now (sent .exit))) (now (out .entry)) (now (out .exit)) (r .next) from (r .written)) × (r .more ≡ false) ⌝ }
+    ensures { λ r. ⌜ ((h : Heading) (values : List (List ℕ)) → HoldsValues book (was element_data) (was prices) h values → Advances (moveOn at (elements h values) found (was s)) (r .progress) (lentOf (left element_data) (left prices) (left links) (left holders) (left states) (left readings) (left blocks) (left lines) (left sent)) (was out) (left out) (r .next) from (r .written)) × (r .more ≡ false) ⌝ }
 {
     if opens_book(found) {
         let last = is_end(found);
@@ -485,7 +487,7 @@ fn on_elements(
 // The end, or a field that is not in its place.
 fn finish(book: Book, found: Found, at: usize, out: &mut [u8], from: usize) -> Advanced
     requires { ⌜ (from + longestLine ≤ length (now out)) × (isMore found ≡ false) ⌝ }
-    ensures { λ r. ⌜ ((t : Lent) (w : World) (n : ℕ) (bytes : List ℕ) → opensBook found ≡ isEnd found → Advances (moveOn at (messages w n) found bytes) (r .progress) t (now (out .entry)) (now (out .exit)) (r .next) from (r .written)) × (r .more ≡ false) ⌝ }
+    ensures { λ r. ⌜ ((t : Lent) (w : World) (n : ℕ) (bytes : List ℕ) → opensBook found ≡ isEnd found → Advances (moveOn at (messages w n) found bytes) (r .progress) t (was out) (left out) (r .next) from (r .written)) × (r .more ≡ false) ⌝ }
 {
     if is_end(found) {
         moved(Phase::Messages, true, book, 1, at, from)
@@ -513,7 +515,7 @@ fn on_messages(
 ) -> Advanced
     requires { ⌜ Sized (lentOf (now element_data) (now prices) (now links) (now holders) (now states) (now readings) (now blocks) (now lines) (now sent)) × (from + longestText ≤ length (now out)) × (number < lastNumber) ⌝ }
     requires { ⌜ Whole (worldIn book (lentOf (now element_data) (now prices) (now links) (now holders) (now states) (now readings) (now blocks) (now lines) (now sent))) × (book .points ≤ 16) × (isMore found ≡ false) ⌝ }
-    ensures { λ r. ⌜ ((bytes : List ℕ) → Advances (moveOn at (messages (worldIn book (lentOf (now (element_data .entry)) (now (prices .entry)) (now (links .entry)) (now (holders .entry)) (now (states .entry)) (now (readings .entry)) (now (blocks .entry)) (now (lines .entry)) (now (sent .entry)))) number) found bytes) (r .progress) (lentOf (now (element_data .entry)) (now (prices .entry)) (now (links .exit)) (now (holders .exit)) (now (states .exit)) (now (readings .exit)) (now (blocks .exit)) (now (lines .exit)) (now (sent .exit))) (now (out .entry)) (now (out .exit)) (r .next) from (r .written)) × (r .more ≡ false) ⌝ }
+    ensures { λ r. ⌜ ((bytes : List ℕ) → Advances (moveOn at (messages (worldIn book (lentOf (was element_data) (was prices) (was links) (was holders) (was states) (was readings) (was blocks) (was lines) (was sent))) number) found bytes) (r .progress) (lentOf (was element_data) (was prices) (left links) (left holders) (left states) (left readings) (left blocks) (left lines) (left sent)) (was out) (left out) (r .next) from (r .written)) × (r .more ≡ false) ⌝ }
 {
     let Found::Message { fields, next } = found else {
         return finish(book, found, at, out, from);
@@ -550,7 +552,7 @@ fn waiting(progress: Progress, at: usize, from: usize) -> Advanced
 
 // Before the first field.
 pub fn begin() -> Progress
-    ensures { λ r. ⌜ ((t : Lent) → Holds r t start) × (r .number ≡ 1) ⌝ }
+    ensures { λ r. ⌜ ((t : Lent) → Represents r t start) × (r .number ≡ 1) ⌝ }
 {
     Progress {
         phase: Phase::Start,
@@ -560,8 +562,8 @@ pub fn begin() -> Progress
     }
 }
 
-// Takes the field at a place of the bytes in hand, and puts what it prints at a place of the output. `ended` says whether the input ends with
-// those bytes. The caller sees to it that the run is not over and that there is a next message number.
+// Takes the field at a place of the bytes in hand, and puts what it prints at a place of the output. `ended` says whether the input ends
+// with those bytes. The caller sees to it that the run is not over and that there is a next message number.
 pub fn advance(
     progress: Progress,
     s: &[u8],
@@ -581,7 +583,7 @@ pub fn advance(
 ) -> Advanced
     requires { ⌜ Sized (lentOf (now element_data) (now prices) (now links) (now holders) (now states) (now readings) (now blocks) (now lines) (now sent)) × (at ≤ length (now s)) × (from + longestText ≤ length (now out)) ⌝ }
     requires { ⌜ Stands progress (lentOf (now element_data) (now prices) (now links) (now holders) (now states) (now readings) (now blocks) (now lines) (now sent)) × (progress .over ≡ false) × (progress .number < lastNumber) ⌝ }
-    ensures { λ r. ⌜ ((stage : Stage) → Holds progress (lentOf (now (element_data .entry)) (now (prices .entry)) (now (links .entry)) (now (holders .entry)) (now (states .entry)) (now (readings .entry)) (now (blocks .entry)) (now (lines .entry)) (now (sent .entry))) stage → Advances (moveOn at stage (foundAt (now (s .entry)) at (progress .phase) ended) (now (s .entry))) (r .progress) (lentOf (now (element_data .exit)) (now (prices .exit)) (now (links .exit)) (now (holders .exit)) (now (states .exit)) (now (readings .exit)) (now (blocks .exit)) (now (lines .exit)) (now (sent .exit))) (now (out .entry)) (now (out .exit)) (r .next) from (r .written)) × (r .more ≡ isMore (foundAt (now (s .entry)) at (progress .phase) ended)) ⌝ }
+    ensures { λ r. ⌜ ((stage : Stage) → Represents progress (lentOf (was element_data) (was prices) (was links) (was holders) (was states) (was readings) (was blocks) (was lines) (was sent)) stage → Advances (moveOn at stage (foundAt (was s) at (progress .phase) ended) (was s)) (r .progress) (lentOf (left element_data) (left prices) (left links) (left holders) (left states) (left readings) (left blocks) (left lines) (left sent)) (was out) (left out) (r .next) from (r .written)) × (r .more ≡ isMore (foundAt (was s) at (progress .phase) ended)) ⌝ }
 {
     let phase = progress.phase;
     let found = find(s, at, phase, ended);
@@ -643,7 +645,7 @@ pub struct Ran {
 
 // Another field can be taken: the run is not over, no more bytes are needed, and there are a message number and room for the longest text.
 fn goes_on(progress: Progress, waits: bool, left: usize) -> bool
-    ensures { λ r. ⌜ r ≡ goesOn progress waits left ⌝ }
+    ensures { λ r. ⌜ r ≡ canGoOn progress waits left ⌝ }
 {
     if waits {
         return false;
@@ -658,8 +660,8 @@ fn goes_on(progress: Progress, waits: bool, left: usize) -> bool
     }
 }
 
-// Takes one field after the other, from a place of the bytes in hand on; the text stands at the front of the output. It stops where the run is
-// over, where more bytes are needed, where the output has no room for the longest text of a field, or after the last message number.
+// Takes one field after the other, from a place of the bytes in hand on; the text stands at the front of the output. It stops where the run
+// is over, where more bytes are needed, where the output has no room for the longest text of a field, or after the last message number.
 pub fn run(
     progress: Progress,
     s: &[u8],
@@ -677,7 +679,7 @@ pub fn run(
     out: &mut [u8],
 ) -> Ran
     requires { ⌜ Sized (lentOf (now element_data) (now prices) (now links) (now holders) (now states) (now readings) (now blocks) (now lines) (now sent)) × (at ≤ length (now s)) × Stands progress (lentOf (now element_data) (now prices) (now links) (now holders) (now states) (now readings) (now blocks) (now lines) (now sent)) ⌝ }
-    ensures { λ r. ⌜ ((stage : Stage) → Holds progress (lentOf (now (element_data .entry)) (now (prices .entry)) (now (links .entry)) (now (holders .entry)) (now (states .entry)) (now (readings .entry)) (now (blocks .entry)) (now (lines .entry)) (now (sent .entry))) stage → Reached ended stage (drop at (now (s .entry))) (take (r .written) (now (out .exit))) (r .progress) (lentOf (now (element_data .exit)) (now (prices .exit)) (now (links .exit)) (now (holders .exit)) (now (states .exit)) (now (readings .exit)) (now (blocks .exit)) (now (lines .exit)) (now (sent .exit))) (drop (r .next) (now (s .entry)))) × Stopped (now (s .entry)) ended (now (out .exit)) r ⌝ }
+    ensures { λ r. ⌜ ((stage : Stage) → Represents progress (lentOf (was element_data) (was prices) (was links) (was holders) (was states) (was readings) (was blocks) (was lines) (was sent)) stage → Reached ended stage (drop at (was s)) (take (r .written) (left out)) (r .progress) (lentOf (left element_data) (left prices) (left links) (left holders) (left states) (left readings) (left blocks) (left lines) (left sent)) (drop (r .next) (was s))) × Stopped (was s) ended (left out) r ⌝ }
 {
     let mut p = progress;
     let mut place = at;

@@ -1,8 +1,9 @@
-// `settle` reads a month's file from standard input and prints the book's line, its records and its refusals. The input comes in pieces through one
-// buffer; what is printed for it is what `runner::run` promises. A write that fails ends the run.
+// `settle` reads a month's file from standard input and prints the book's line, its records and its refusals. The input comes in pieces
+// through one buffer; what is printed for it is what `runner::run` promises. A write that fails ends the run.
 ghost use mathlib.Core.Path.{_≡_};
 ghost use Prim.Native.Nat.{_-_, _≤_};
 ghost use lib.ListN.{length, take, drop};
+ghost use Rattle.rules.specs.Lent.{left, was};
 use libc::STDIN_FILENO;
 use libc::STDOUT_FILENO;
 use runner::begin;
@@ -11,7 +12,7 @@ use runner::run;
 // The bytes from `at` up to `have` come to the front of the buffer; how many there are.
 fn keep_rest(buffer: &mut [u8], at: usize, have: usize) -> usize
     requires { ⌜ (at ≤ have) × (have ≤ length (now buffer)) ⌝ }
-    ensures { λ r. ⌜ (r ≡ have - at) × (take r (now (buffer .exit)) ≡ take (have - at) (drop at (now (buffer .entry)))) ⌝ }
+    ensures { λ r. ⌜ (r ≡ have - at) × (take r (left buffer) ≡ take (have - at) (drop at (was buffer))) ⌝ }
 {
     let rest = have - at;
     let mut i = 0;
@@ -25,7 +26,7 @@ fn keep_rest(buffer: &mut [u8], at: usize, have: usize) -> usize
 // Reads once behind the first `have` bytes; how many there are then. The same number where the input has ended or cannot be read.
 fn read_more(buffer: &mut [u8], have: usize) -> usize
     requires { ⌜ have ≤ length (now buffer) ⌝ }
-    ensures { λ r. ⌜ (have ≤ r) × (r ≤ length (now (buffer .exit))) × (length (now (buffer .exit)) ≡ length (now (buffer .entry))) × (take have (now (buffer .exit)) ≡ take have (now (buffer .entry))) ⌝ }
+    ensures { λ r. ⌜ (have ≤ r) × (r ≤ length (left buffer)) × (length (left buffer) ≡ length (was buffer)) × (take have (left buffer) ≡ take have (was buffer)) ⌝ }
 {
     let free = &mut buffer[have..];
     let got = libc::read(STDIN_FILENO, free);

@@ -1,40 +1,36 @@
--- A message that has passed questions 2 to 16: its changes are the rules', so question 17 and what is written are the rules' too. Assumes nothing.
-use Prim.Native.Nat.{ℕ, zero, suc, _+_, _*_, _/_, _≤_, _<_}
-use mathlib.Core.Path.{_≡_, refl, sym, ap, ap₂, _∙_}
-use mathlib.Core.Bool.{Bool, true, false, _&&_, cond}
-use mathlib.Core.List.{List, []}
-use lib.IntN.{ℤ, pos, natAbs, _+ℤ_, +ℤ-idl}
+-- A message that has passed questions 2 to 16: its changes are the rules', so question 17 and what is written are the rules' too. Assumes
+-- nothing.
+use Prim.Native.Nat.{ℕ, zero, suc, _+_, _*_, _≤_, _<_}
+use mathlib.Core.Path.{_≡_, refl, sym, ap, _∙_}
+use mathlib.Core.Bool.{Bool, true, false, _&&_}
+use mathlib.Core.List.{List}
+use lib.IntN.{ℤ, pos, _+ℤ_, +ℤ-idl}
 use lib.ListN.{length, getD, replicate, length-replicate}
-use lib.Dec.{eqb}
 use native.Mathlib.Nat.{mul-le-mul-right}
 use native.Mathlib.Omega.{arith}
-use Rattle.rules.specs.declared.Answer.{Answer}
-use Rattle.rules.specs.declared.Answer.the-variants.{Accepted, TableFull}
 use Rattle.rules.specs.declared.Book.{Book}
 use Rattle.rules.specs.declared.Body.{Body}
-use Rattle.rules.specs.Answers.{numberOf}
 use Rattle.rules.specs.Basics.{allTo}
 use Rattle.rules.specs.Lines.{Measure}
 use Rattle.rules.specs.World.{Opening, Tables, World, openingOf, tablesOf, worldOf, lineCount}
 use Rattle.rules.specs.WellFormed.{rowsFit, openingSized, tablesSized, linesSized, tablesRight, lineRight, linesRight, withinLimits, question2, question3, question5}
 use Rattle.rules.specs.Effects.{told, movedLines, tablesAfter, linesAfter, ask, question17}
-use Rattle.rules.proofs.Tests.{cases, both}
-use Rattle.rules.proofs.Parts.{limits, Whole}
-use Rattle.rules.proofs.Passed.{Ready}
-use Rattle.messages.specs.Decided.{Readable}
-use Rattle.messages.proofs.Whole.{whole-readable}
+use Rattle.rules.proofs.Tests.{both}
+use Rattle.rules.proofs.Parts.{limits}
+use Rattle.rules.specs.Whole.{Whole}
+use Rattle.rules.specs.Ready.{Ready}
 use Rattle.posting.specs.Fits.{Room}
-use Rattle.posting.specs.WholeBook.{whole-book}
+use Rattle.posting.proofs.WholeBook.{whole-book}
 use Rattle.posting.specs.Kinds.{changeAt}
-use Rattle.posting.specs.Posted.{Posted, PostedBoth, Postable}
-use Rattle.posting.specs.Sizes.{change-small}
-use Rattle.writing.specs.Recorded.{Recordable, Written}
-use Rattle.writing.proofs.Whole.{recordable}
-use Rattle.writing.proofs.Leaves.{written-world}
+use Rattle.posting.specs.Posted.{Posted, PostedBoth}
+use Rattle.posting.proofs.Sizes.{change-small}
+use Rattle.recording.specs.Recorded.{RecordedAs}
+use Rattle.recording.proofs.Whole.{recordable}
+use Rattle.recording.proofs.Leaves.{written-world}
 use Rattle.ledger.specs.Added.{addedLines, Changes, ByRules}
 use Rattle.ledger.proofs.MovedLines.{moved-added, fit-is, changes}
-use Rattle.settlement.specs.declared.Reply.{Reply}
 use Rattle.settlement.specs.Replies.{Appliable, Applied, movedOn}
+use Rattle.rules.specs.Sizes.{places}
 
 -- ---- of a book that questions 2 to 5 pass, and a message that 6 to 16 pass
 
@@ -126,7 +122,7 @@ module _ (b : Book) (ds : List ℕ) (ps : List ℤ) (ls hs ss rs bs : List ℕ) 
   fits-is r e = ap (λ x. rowsFit (told o t body) && x) (fit-is o lines t (told o t body) qs vs (p .quantity) (p .amount)) ∙ sym e
 
   -- and what it writes is the rules' next position
-  pub applied : question17 w body ≡ true → (r : Book) (ls′ hs′ ss′ rs′ bs′ : List ℕ) → Written b o t body r (tablesOf r ls′ hs′ ss′ rs′ bs′) → (lines′ : List ℤ)
+  pub applied : question17 w body ≡ true → (r : Book) (ls′ hs′ ss′ rs′ bs′ : List ℕ) → RecordedAs b o t body r (tablesOf r ls′ hs′ ss′ rs′ bs′) → (lines′ : List ℤ)
       → lines′ ≡ addedLines lines qs vs (b .suppliers * b .elements) → Applied w (worldOf r ds ps ls′ hs′ ss′ rs′ bs′ lines′ ts) body 0
   unfolding movedOn tablesAfter linesAfter lineCount ask
   applied h r ls′ hs′ ss′ rs′ bs′ v lines′ e =

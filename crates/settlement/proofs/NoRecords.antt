@@ -16,7 +16,8 @@ use Rattle.rules.specs.Basics.{when}
 use Rattle.rules.specs.Messages.{bodyOf, senderOf, isDay, both, understood, bodyIn}
 use Rattle.rules.specs.World.{World}
 use Rattle.rules.specs.Effects.{isRound, answer, accepted, written, writtenBy, recordsOf}
-use Rattle.rounds.specs.RecordNumbers.{numbersAfter, numbers-none}
+use Rattle.ledger.specs.RecordNumbers.{numbersAfter}
+use Rattle.ledger.proofs.RecordNumbers.{numbers-none}
 
 module _ (w : World) where
   when-none : (t : Bool) (b : Body) → isRound b ≡ false → writtenBy w (when t b) ≡ []

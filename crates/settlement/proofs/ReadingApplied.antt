@@ -1,5 +1,5 @@
--- Message 6: the changes of the lines of the supplier who pays, as changes of all lines, are the rules'; so question 17 asks of them what the code tests,
--- and what is written are the rules' lines. Assumes nothing.
+-- Message 6: the changes of the lines of the supplier who pays, as changes of all lines, are the rules'; so question 17 asks of them what
+-- the code tests, and what is written are the rules' lines. Assumes nothing.
 use Prim.Native.Nat.{ℕ, _+_, _*_, _/_, _%_, _≤_, _<_}
 use mathlib.Core.Path.{_≡_, refl, sym, ap, _∙_}
 use mathlib.Core.Bool.{Bool, true, false, _&&_, cond}
@@ -24,9 +24,9 @@ use Rattle.rules.specs.Effects.{told, supplierOf, elementOf, question17}
 use Rattle.rules.proofs.Ranges.{getD-listTo}
 use Rattle.posting.specs.Posted.{isReading}
 use Rattle.metering.specs.Hours.{Reread, RereadBoth}
-use Rattle.writing.proofs.Asks.{countable}
-use Rattle.writing.proofs.Counts.{reading-count}
-use Rattle.writing.proofs.Leaves.{written-kept}
+use Rattle.recording.proofs.Asks.{countable}
+use Rattle.recording.proofs.Counts.{reading-count}
+use Rattle.recording.proofs.Leaves.{written-kept}
 use Rattle.ledger.specs.Added.{addedLines, ByRules, ownAt, ownChanges, ownLines}
 use Rattle.settlement.specs.Replies.{Appliable, Applied}
 use Rattle.settlement.proofs.Applying.{Rules, fits-is, applied, applied-not}

@@ -12,8 +12,8 @@ use Rattle.rules.specs.declared.Body.the-variants.{Round}
 use Rattle.rules.specs.Answers.{numberOf}
 use Rattle.rules.specs.World.{World, Sent, openingOf}
 use Rattle.rules.specs.Effects.{records, sentAfter, ask, question18}
-use Rattle.rounds.specs.Moved.{IsWorld, Listed}
-use Rattle.rounds.proofs.Sending.{round-fits, round-sent}
+use Rattle.ledger.specs.Moved.{IsWorld, Listed}
+use Rattle.ledger.proofs.Sending.{round-fits, round-sent}
 use Rattle.settlement.specs.declared.Reply.{Reply}
 use Rattle.settlement.specs.Replies.{withRound, Sending}
 

@@ -1,38 +1,39 @@
--- A message of a whole book: each way through the code ends in the rules' answer and step. By the questions that have passed on the way. Assumes nothing.
-use Prim.Native.Nat.{ℕ, _+_, _*_, _/_, _≤_, _<_}
-use mathlib.Core.Path.{_≡_, refl, sym, ap, ap₂, subst, _∙_}
+-- A message of a whole book: each way through the code ends in the rules' answer and step. By the questions that have passed on the way.
+-- Assumes nothing.
+use Prim.Native.Nat.{ℕ, _≤_, _<_}
+use mathlib.Core.Path.{_≡_, refl, sym, ap, subst, _∙_}
 use mathlib.Core.Logic.{_≢_}
-use mathlib.Core.Bool.{Bool, true, false, _&&_, cond, false≢true}
+use mathlib.Core.Bool.{true, false, cond, false≢true}
 use mathlib.Core.List.{List, []}
 use mathlib.Core.Option.{Option, none, some}
 use lib.IntN.{ℤ}
 use lib.ListN.{length, getD}
-use lib.Dec.{leb, eqb}
-use borrow.Author.Tests.{eqb-true, eq-eqb, ne-eqb, le-leb, lt-leb}
+use lib.Dec.{eqb}
+use borrow.Author.Tests.{eqb-true, ne-eqb, le-leb, lt-leb}
 use native.Mathlib.Omega.{arith}
-use Rattle.rules.specs.declared.Answer.{Answer}
 use Rattle.rules.specs.declared.Book.{Book}
 use Rattle.rules.specs.declared.Body.{Body}
 use Rattle.rules.specs.declared.Body.the-variants.{Round}
 use Rattle.rules.specs.declared.Fields.{Fields}
 use Rattle.rules.specs.declared.Message.{Message}
 use Rattle.rules.specs.Answers.{numberOf}
-use Rattle.rules.specs.World.{Opening, Tables, Position, World, Sent, worldOf, openingOf, tablesOf}
-use Rattle.rules.specs.WellFormed.{rowsFit, withinLimits, openingSized, tablesSized, linesSized, tablesRight, linesRight, linePlaces, question2, question3, question4, question5}
+use Rattle.rules.specs.World.{Position, World, worldOf}
+use Rattle.rules.specs.WellFormed.{rowsFit, withinLimits, openingSized, tablesSized, linesSized, tablesRight, linesRight, linePlaces, question2, question3, question5}
 use Rattle.rules.specs.Messages.{understood, bodyIn}
 use Rattle.rules.specs.Basics.{listTo}
 use Rattle.rules.specs.Effects.{supplierOf, elementOf, recordOf, told, isRound, written, records, sentAfter, tablesAfter, linesAfter, posted, ask, question17, question18, answerTo, askBook, answer, accepted, stepBy, step, writtenBy, recordsOf}
 use Rattle.rules.proofs.Tests.{cases, both}
-use Rattle.rules.proofs.Parts.{Whole}
-use Rattle.rules.proofs.Passed.{Ready, Behind, behind, Taken, taken}
+use Rattle.rules.specs.Whole.{Whole}
+use Rattle.rules.specs.Ready.{Ready}
+use Rattle.rules.proofs.Passed.{behind, taken}
 use Rattle.rules.proofs.Kept.{posted-whole}
 use Rattle.book.proofs.Passes.{book-refused}
-use Rattle.messages.specs.Decided.{decided}
-use Rattle.messages.proofs.Next.{answer-decided, decided-passed, decided-refused}
+use Rattle.validation.specs.Decided.{decided}
+use Rattle.validation.proofs.Next.{answer-decided, decided-passed, decided-refused}
 use Rattle.ledger.proofs.MovedLines.{moved-none}
-use Rattle.rounds.specs.Moved.{linesIn, IsWorld, Settled, Listed}
-use Rattle.rounds.specs.RecordNumbers.{numbersAfter}
-use Rattle.rounds.proofs.Sending.{other-written, other-sent, round-written}
+use Rattle.ledger.specs.Moved.{linesIn, IsWorld, Settled, Listed}
+use Rattle.ledger.specs.RecordNumbers.{numbersAfter}
+use Rattle.ledger.proofs.Sending.{other-written, other-sent, round-written}
 use Rattle.settlement.specs.declared.Reply.{Reply}
 use Rattle.settlement.proofs.Rounding.{fits-18}
 use Rattle.settlement.specs.Replies.{roomIn, movedOn, Applied, Sending, Answered, Due, Replied}

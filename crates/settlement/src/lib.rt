@@ -1,46 +1,47 @@
-// The entry points for messages: judge, changes of lines, question 17, tables and lines, records and what was sent.
+// A message of a book that is well formed: questions 6 to 18, what it changes, and the records of a round.
 ghost use mathlib.Core.Path.{_≡_};
-ghost use mathlib.Core.List.{List, []};
-ghost use mathlib.Core.Bool.{true, false, _&&_};
-ghost use lib.IntN.{ℤ};
-ghost use lib.ListN.{length};
-ghost use Prim.Native.Nat.{ℕ, _*_, _≤_};
-ghost use Rattle.rules.specs.Answers.{numberOf};
-ghost use Rattle.rules.specs.World.{World, openingOf, tablesOf, worldOf};
-ghost use Rattle.rules.specs.Basics.{allTo};
-ghost use Rattle.rules.specs.WellFormed.{rowsFit, lineRight};
-ghost use Rattle.rules.specs.Effects.{told, isRound, recordsOf};
+ghost use mathlib.Core.Bool.{true, _&&_};
+ghost use lib.ListN.{take};
+ghost use Prim.Native.Nat.{_*_};
 ghost use Rattle.rules.specs.declared.Answer.the-variants.{Accepted};
 ghost use Rattle.rules.specs.declared.Body.the-variants.{Reading};
-ghost use Rattle.posting.specs.Posted.{isReading};
+ghost use Rattle.rules.specs.Answers.{numberOf};
+ghost use Rattle.rules.specs.Sizes.{lineSize};
+ghost use Rattle.rules.specs.Basics.{allTo};
+ghost use Rattle.rules.specs.WellFormed.{rowsFit, lineRight};
+ghost use Rattle.rules.specs.Effects.{told};
+ghost use Rattle.rules.specs.Whole.{Whole};
+ghost use Rattle.rules.specs.Lent.{Lists, worldIn, openingIn, tablesIn, given, lent, lendRows, lendReadings, lendCharging, lendLines, lendMoney, left, was};
+ghost use Rattle.tables.specs.Order.{TableRows};
 ghost use Rattle.ledger.specs.Added.{addedLines, Changes};
-ghost use Rattle.writing.specs.Recorded.{Countable};
-ghost use Rattle.rules.proofs.Parts.{Whole};
-ghost use Rattle.rounds.specs.Moved.{IsWorld, Settled};
-ghost use Rattle.settlement.specs.Replies.{roomIn, Appliable, Applied, withRound, Sending, Answered, Due, Replied};
-ghost use Rattle.rounds.specs.RecordNumbers.{numbersAfter};
-use book::check_book;
-use intake::Understood;
-use intake::understand;
-use ledger::commit_lines;
-use ledger::lines_fit;
-use messages::decide;
-use messages::number;
+ghost use Rattle.ledger.specs.Moved.{linesIn, Settled};
+ghost use Rattle.recording.specs.Recorded.{RowFits, writesRow};
+ghost use Rattle.settlement.specs.Replies.{ReadyIn, Applied, withRound, Sending, Replied};
+use facts::link_ends;
+use ledger::lines::commit_lines;
+use ledger::lines::lines_fit;
+use ledger::rounds::moved_count;
+use ledger::rounds::next_round;
+use ledger::rounds::send_lines;
+use metering::NewReading;
 use metering::settle_reading;
 use posting::post;
-use rounds::copy_lines;
-use rounds::moved_lines;
-use rounds::next_round;
-use rounds::put_records;
+use recording::messages::rows_fit_after;
+use recording::messages::write_block;
+use recording::messages::write_reading;
+use recording::messages::write_rows;
 use rules::Answer;
 use rules::Body;
 use rules::Book;
 use rules::Fields;
-use writing::rows_fit_after;
-use writing::write_reading;
-use writing::write_tables;
+use rules::MOST_LINES;
+use rules::RECORD_SIZE;
+use validation::fields::Understood;
+use validation::fields::understand;
+use validation::questions::decide;
+use validation::questions::number;
 
-// What an entry point for messages answers: the answer, the book afterwards, and how many records the list now holds.
+// What is answered to a message: the answer, the book afterwards, and how many records stand at the front of the list.
 pub struct Reply {
     pub answer: Answer,
     pub book: Book,
@@ -57,7 +58,7 @@ fn accepted(book: Book, records: usize) -> Reply
     }
 }
 
-fn refused(answer: Answer, book: Book) -> Reply
+pub fn refused(answer: Answer, book: Book) -> Reply
     ensures { λ r. ⌜ (r .answer ≡ answer) × (r .book ≡ book) × (r .records ≡ 0) ⌝ }
 {
     Reply {
@@ -78,9 +79,13 @@ fn is_fitting(
     amounts: &[i64],
     body: Body,
 ) -> bool
-    requires { ⌜ Countable book (now links) (now holders) (now states) body ⌝ }
-    requires { ⌜ Changes (now lines) (now quantities) (now amounts) (book .suppliers * book .elements) ⌝ }
-    ensures { λ r. ⌜ ((ds : List ℕ) (ps : List ℤ) (rs bs : List ℕ) → r ≡ (rowsFit (told (openingOf book ds ps) (tablesOf book (now (links .entry)) (now (holders .entry)) (now (states .entry)) rs bs) body) && allTo (λ k. lineRight (addedLines (now (lines .entry)) (now (quantities .entry)) (now (amounts .entry)) (book .suppliers * book .elements)) (k * 3)) (book .suppliers * book .elements))) ⌝ }
+    requires { ⌜ TableRows book (now links) (now holders) (now states) ⌝ }
+    requires { ⌜ RowFits (take (book .periods) (now links)) body ⌝ }
+    requires { ⌜ Changes (now lines) (now quantities) (now amounts) (linesIn book) ⌝ }
+    ensures { λ r. ⌜ ((o : Lists) →
+        let t = lendRows (was links) (was holders) (was states) o in
+        let after = addedLines (was lines) (was quantities) (was amounts) (linesIn book) in
+        r ≡ (rowsFit (told (openingIn book t) (tablesIn book t) body) && allTo (λ k. lineRight after (k * lineSize)) (linesIn book))) ⌝ }
 {
     let count = (book.suppliers * book.elements) as usize;
     let lines_right = lines_fit(lines, quantities, amounts, count);
@@ -91,8 +96,8 @@ fn is_fitting(
     }
 }
 
-// Messages 1 to 5 and 7: the changes of the lines, question 17, then tables and lines. Cost: linear in the lines, the point's rows and the
-// days of the month, and in the rows behind the place of a new one.
+// Messages 1 to 5: the changes of the lines, question 17, then rows and lines. Cost: linear in the lines, the point's rows and the days of
+// the month, and in the rows behind the place of a new one.
 fn apply_lines(
     book: Book,
     element_data: &[u8],
@@ -100,16 +105,22 @@ fn apply_lines(
     links: &mut [u64],
     holders: &mut [u64],
     states: &mut [u64],
-    readings: &mut [u32],
-    blocks: &mut [u8],
+    readings: &[u32],
     lines: &mut [i64],
     body: Body,
 ) -> Reply
-    requires { ⌜ Appliable (openingOf book (now element_data) (now prices)) (tablesOf book (now links) (now holders) (now states) (now readings) (now blocks)) (now lines) body × (isReading body ≡ false) ⌝ }
-    ensures { λ r. ⌜ ((ts : List ℤ) → Applied (worldOf book (now (element_data .entry)) (now (prices .entry)) (now (links .entry)) (now (holders .entry)) (now (states .entry)) (now (readings .entry)) (now (blocks .entry)) (now (lines .entry)) ts) (worldOf (r .book) (now (element_data .entry)) (now (prices .entry)) (now (links .exit)) (now (holders .exit)) (now (states .exit)) (now (readings .exit)) (now (blocks .exit)) (now (lines .exit)) ts) body (numberOf (r .answer))) × (r .records ≡ 0) ⌝ }
+    requires { ⌜ ((o : Lists) × ReadyIn book (lendCharging (now element_data) (now prices) (now links) (now holders) (now states)
+        (now readings) (lendLines (now lines) o)) body) ⌝ }
+    requires { ⌜ writesRow body ≡ true ⌝ }
+    ensures applied { λ r. ⌜ ((o : Lists) →
+        let t = lendCharging (was element_data) (was prices) (was links) (was holders) (was states) (was readings) (lendLines (was lines) o) in
+        let after = lendRows (left links) (left holders) (left states) (lendLines (left lines) t) in
+        ReadyIn book t body → Applied (worldIn book t) (worldIn (r .book) after) body (numberOf (r .answer))) ⌝ }
+    ensures none { λ r. ⌜ r .records ≡ 0 ⌝ }
 {
-    let mut quantities = [0i64; 1024];
-    let mut amounts = [0i64; 1024];
+    let ends = link_ends(book, element_data, links, body);
+    let mut quantities = [0i64; MOST_LINES];
+    let mut amounts = [0i64; MOST_LINES];
     post(
         &mut quantities,
         &mut amounts,
@@ -120,8 +131,8 @@ fn apply_lines(
         holders,
         states,
         readings,
-        blocks,
         body,
+        ends,
     );
     if is_fitting(
         book,
@@ -133,16 +144,7 @@ fn apply_lines(
         &amounts,
         body,
     ) {
-        let after = write_tables(
-            book,
-            element_data,
-            links,
-            holders,
-            states,
-            readings,
-            blocks,
-            body,
-        );
+        let after = write_rows(book, links, holders, states, body, ends);
         let count = (book.suppliers * book.elements) as usize;
         commit_lines(lines, &quantities, &amounts, count);
         accepted(after, 0)
@@ -161,15 +163,17 @@ fn apply_reading(
     holders: &[u64],
     states: &[u64],
     readings: &mut [u32],
-    blocks: &[u8],
     lines: &mut [i64],
-    point: u64,
-    day: u64,
-    hour: u64,
-    energy: u64,
+    new: NewReading,
 ) -> Reply
-    requires { ⌜ Appliable (openingOf book (now element_data) (now prices)) (tablesOf book (now links) (now holders) (now states) (now readings) (now blocks)) (now lines) (Reading point day hour energy) ⌝ }
-    ensures { λ r. ⌜ ((ts : List ℤ) → Applied (worldOf book (now (element_data .entry)) (now (prices .entry)) (now (links .entry)) (now (holders .entry)) (now (states .entry)) (now (readings .entry)) (now (blocks .entry)) (now (lines .entry)) ts) (worldOf (r .book) (now (element_data .entry)) (now (prices .entry)) (now (links .entry)) (now (holders .entry)) (now (states .entry)) (now (readings .exit)) (now (blocks .entry)) (now (lines .exit)) ts) (Reading point day hour energy) (numberOf (r .answer))) × (r .records ≡ 0) ⌝ }
+    requires { ⌜ ((o : Lists) × ReadyIn book (lendCharging (now element_data) (now prices) (now links) (now holders) (now states)
+        (now readings) (lendLines (now lines) o)) (Reading (new .point) (new .day) (new .hour) (new .energy))) ⌝ }
+    ensures applied { λ r. ⌜ ((o : Lists) →
+        let body = Reading (new .point) (new .day) (new .hour) (new .energy) in
+        let t = lendCharging (was element_data) (was prices) (was links) (was holders) (was states) (was readings) (lendLines (was lines) o) in
+        let after = lendReadings (left readings) (lendLines (left lines) t) in
+        ReadyIn book t body → Applied (worldIn book t) (worldIn (r .book) after) body (numberOf (r .answer))) ⌝ }
+    ensures none { λ r. ⌜ r .records ≡ 0 ⌝ }
 {
     if settle_reading(
         book,
@@ -179,71 +183,14 @@ fn apply_reading(
         holders,
         states,
         readings,
-        blocks,
         lines,
-        point,
-        day,
-        hour,
-        energy,
+        new,
     ) {
-        write_reading(book, readings, point, day, hour, energy);
+        write_reading(book, readings, new.point, new.day, new.hour, new.energy);
         accepted(book, 0)
     } else {
         refused(Answer::TableFull, book)
     }
-}
-
-// Messages 1 to 7. Cost: as for the two above.
-fn apply(
-    book: Book,
-    element_data: &[u8],
-    prices: &[i64],
-    links: &mut [u64],
-    holders: &mut [u64],
-    states: &mut [u64],
-    readings: &mut [u32],
-    blocks: &mut [u8],
-    lines: &mut [i64],
-    body: Body,
-) -> Reply
-    requires { ⌜ Appliable (openingOf book (now element_data) (now prices)) (tablesOf book (now links) (now holders) (now states) (now readings) (now blocks)) (now lines) body ⌝ }
-    ensures { λ r. ⌜ ((ts : List ℤ) → Applied (worldOf book (now (element_data .entry)) (now (prices .entry)) (now (links .entry)) (now (holders .entry)) (now (states .entry)) (now (readings .entry)) (now (blocks .entry)) (now (lines .entry)) ts) (worldOf (r .book) (now (element_data .entry)) (now (prices .entry)) (now (links .exit)) (now (holders .exit)) (now (states .exit)) (now (readings .exit)) (now (blocks .exit)) (now (lines .exit)) ts) body (numberOf (r .answer))) × (r .records ≡ 0) ⌝ }
-{
-    let Body::Reading {
-        point,
-        day,
-        hour,
-        energy,
-    } = body
-    else {
-        return apply_lines(
-            book,
-            element_data,
-            prices,
-            links,
-            holders,
-            states,
-            readings,
-            blocks,
-            lines,
-            body,
-        );
-    };
-    apply_reading(
-        book,
-        element_data,
-        prices,
-        links,
-        holders,
-        states,
-        readings,
-        blocks,
-        lines,
-        point,
-        day,
-        hour,
-        energy,
-    )
 }
 
 fn with_round(book: Book, round: u64) -> Book
@@ -254,461 +201,24 @@ fn with_round(book: Book, round: u64) -> Book
     next
 }
 
-// Message 8: question 18 of the room for records, then what is sent and the kind of the next round. Linear in the lines.
-fn send(book: Book, lines: &[i64], sent: &mut [i64], room: usize) -> Reply
-    requires { ⌜ Settled book (now lines) (now sent) × (1 ≤ book .round) × (book .round ≤ 3) ⌝ }
-    ensures { λ r. ⌜ ((w : World) → IsWorld w book (now (lines .entry)) (now (sent .entry)) → Sending w book r (now (sent .exit)) room) ⌝ }
+// Message 8: question 18 of the room for records, then the records, what is sent and the kind of the next round. Linear in the lines.
+fn send(book: Book, lines: &[i64], sent: &mut [i64], records: &mut [i64]) -> Reply
+    requires { ⌜ Settled book (now lines) (now sent) ⌝ }
+    ensures { λ r. ⌜ ((o : Lists) →
+        let w = worldIn book (lendMoney (was lines) (was sent) o) in
+        Sending w book r (left sent) (was records) (left records)) ⌝ }
 {
-    let mut moved = [0u64; 1024];
-    let count = moved_lines(book, lines, sent, &mut moved);
-    if count <= room {
-        copy_lines(lines, sent);
+    let count = moved_count(book, lines, sent);
+    if count <= records.len() / RECORD_SIZE {
+        send_lines(book, lines, sent, records);
         accepted(with_round(book, next_round(book.round)), count)
     } else {
         refused(Answer::ListFull, book)
     }
 }
 
-fn is_round(body: Body) -> bool
-    ensures { λ r. ⌜ r ≡ isRound body ⌝ }
-{
-    match body {
-        Body::Link {
-            point,
-            element,
-            day,
-            quantity,
-        } => false,
-        Body::Stop {
-            point,
-            element,
-            day,
-        } => false,
-        Body::Quantity {
-            point,
-            element,
-            day,
-            quantity,
-        } => false,
-        Body::Holder { point, day, holder } => false,
-        Body::State { point, day, state } => false,
-        Body::Reading {
-            point,
-            day,
-            hour,
-            energy,
-        } => false,
-        Body::Block { point, blocked } => false,
-        Body::Round => true,
-    }
-}
-
-// A message of a book that is well formed, and stays so, with room for so many records: questions 6 to 18, and all that is written but the
-// records. Cost: as for `apply` and `send`.
-pub fn take_within(
-    book: Book,
-    element_data: &[u8],
-    prices: &[i64],
-    links: &mut [u64],
-    holders: &mut [u64],
-    states: &mut [u64],
-    readings: &mut [u32],
-    blocks: &mut [u8],
-    lines: &mut [i64],
-    sent: &mut [i64],
-    room: usize,
-    fields: Fields,
-) -> Reply
-    requires { ⌜ Whole (worldOf book (now element_data) (now prices) (now links) (now holders) (now states) (now readings) (now blocks) (now lines) (now sent)) ⌝ }
-    ensures { λ r. ⌜ Answered (worldOf book (now (element_data .entry)) (now (prices .entry)) (now (links .entry)) (now (holders .entry)) (now (states .entry)) (now (readings .entry)) (now (blocks .entry)) (now (lines .entry)) (now (sent .entry))) (worldOf (r .book) (now (element_data .entry)) (now (prices .entry)) (now (links .exit)) (now (holders .exit)) (now (states .exit)) (now (readings .exit)) (now (blocks .exit)) (now (lines .exit)) (now (sent .exit))) fields r room × Whole (worldOf (r .book) (now (element_data .entry)) (now (prices .entry)) (now (links .exit)) (now (holders .exit)) (now (states .exit)) (now (readings .exit)) (now (blocks .exit)) (now (lines .exit)) (now (sent .exit))) ⌝ }
-{
-    let understood = understand(book.suppliers, fields);
-    let Understood::Passed(m) = understood else {
-        return refused(Answer::OutOfRange, book);
-    };
-    let decision = decide(
-        book,
-        element_data,
-        prices,
-        links,
-        holders,
-        states,
-        readings,
-        blocks,
-        m,
-    );
-    if number(decision) == 0 {
-        let body = m.body;
-        if is_round(body) {
-            send(book, lines, sent, room)
-        } else {
-            apply(
-                book,
-                element_data,
-                prices,
-                links,
-                holders,
-                states,
-                readings,
-                blocks,
-                lines,
-                body,
-            )
-        }
-    } else {
-        refused(decision, book)
-    }
-}
-
-// The same of any book and any tables: questions 2 to 18.
-pub fn take(
-    book: Book,
-    element_data: &[u8],
-    prices: &[i64],
-    links: &mut [u64],
-    holders: &mut [u64],
-    states: &mut [u64],
-    readings: &mut [u32],
-    blocks: &mut [u8],
-    lines: &mut [i64],
-    sent: &mut [i64],
-    room: usize,
-    fields: Fields,
-) -> Reply
-    ensures { λ r. ⌜ Answered (worldOf book (now (element_data .entry)) (now (prices .entry)) (now (links .entry)) (now (holders .entry)) (now (states .entry)) (now (readings .entry)) (now (blocks .entry)) (now (lines .entry)) (now (sent .entry))) (worldOf (r .book) (now (element_data .entry)) (now (prices .entry)) (now (links .exit)) (now (holders .exit)) (now (states .exit)) (now (readings .exit)) (now (blocks .exit)) (now (lines .exit)) (now (sent .exit))) fields r room ⌝ }
-{
-    let checked = check_book(
-        book,
-        element_data,
-        prices,
-        links,
-        holders,
-        states,
-        readings,
-        blocks,
-        lines,
-        sent,
-    );
-    if number(checked) == 0 {
-        take_within(
-            book,
-            element_data,
-            prices,
-            links,
-            holders,
-            states,
-            readings,
-            blocks,
-            lines,
-            sent,
-            room,
-            fields,
-        )
-    } else {
-        refused(checked, book)
-    }
-}
-
-// ---- the records that a message will write, before anything is written
-
-// The numbers of their lines at the front of `moved`, and how many there are: 0 unless the message is a round that will be accepted.
-// Cost: linear in the lines for a round, else constant.
-pub fn due_within(
-    book: Book,
-    element_data: &[u8],
-    prices: &[i64],
-    links: &[u64],
-    holders: &[u64],
-    states: &[u64],
-    readings: &[u32],
-    blocks: &[u8],
-    lines: &[i64],
-    sent: &[i64],
-    room: usize,
-    fields: Fields,
-    moved: &mut [u64],
-) -> usize
-    requires { ⌜ Whole (worldOf book (now element_data) (now prices) (now links) (now holders) (now states) (now readings) (now blocks) (now lines) (now sent)) × (1024 ≤ length (now moved)) ⌝ }
-    ensures { λ n. ⌜ Due (worldOf book (now (element_data .entry)) (now (prices .entry)) (now (links .entry)) (now (holders .entry)) (now (states .entry)) (now (readings .entry)) (now (blocks .entry)) (now (lines .entry)) (now (sent .entry))) book (now (lines .entry)) (now (sent .entry)) fields room (now (moved .exit)) n ⌝ }
-{
-    let understood = understand(book.suppliers, fields);
-    let Understood::Passed(m) = understood else {
-        return 0;
-    };
-    let body = m.body;
-    if is_round(body) {
-        let decision = decide(
-            book,
-            element_data,
-            prices,
-            links,
-            holders,
-            states,
-            readings,
-            blocks,
-            m,
-        );
-        if number(decision) == 0 {
-            let count = moved_lines(book, lines, sent, moved);
-            if count <= room { count } else { 0 }
-        } else {
-            0
-        }
-    } else {
-        0
-    }
-}
-
-// The same of any book and any tables.
-pub fn due(
-    book: Book,
-    element_data: &[u8],
-    prices: &[i64],
-    links: &[u64],
-    holders: &[u64],
-    states: &[u64],
-    readings: &[u32],
-    blocks: &[u8],
-    lines: &[i64],
-    sent: &[i64],
-    room: usize,
-    fields: Fields,
-    moved: &mut [u64],
-) -> usize
-    requires { ⌜ 1024 ≤ length (now moved) ⌝ }
-    ensures { λ n. ⌜ Due (worldOf book (now (element_data .entry)) (now (prices .entry)) (now (links .entry)) (now (holders .entry)) (now (states .entry)) (now (readings .entry)) (now (blocks .entry)) (now (lines .entry)) (now (sent .entry))) book (now (lines .entry)) (now (sent .entry)) fields room (now (moved .exit)) n ⌝ }
-{
-    let checked = check_book(
-        book,
-        element_data,
-        prices,
-        links,
-        holders,
-        states,
-        readings,
-        blocks,
-        lines,
-        sent,
-    );
-    if number(checked) == 0 {
-        due_within(
-            book,
-            element_data,
-            prices,
-            links,
-            holders,
-            states,
-            readings,
-            blocks,
-            lines,
-            sent,
-            room,
-            fields,
-            moved,
-        )
-    } else {
-        0
-    }
-}
-
-// ---- the entry points that are lent a list of records as numbers, six a record
-
-// The records that are due, at the front of the list. Linear in the lines.
-fn put_due_within(
-    book: Book,
-    element_data: &[u8],
-    prices: &[i64],
-    links: &[u64],
-    holders: &[u64],
-    states: &[u64],
-    readings: &[u32],
-    blocks: &[u8],
-    lines: &[i64],
-    sent: &[i64],
-    records: &mut [i64],
-    fields: Fields,
-)
-    requires { ⌜ Whole (worldOf book (now element_data) (now prices) (now links) (now holders) (now states) (now readings) (now blocks) (now lines) (now sent)) ⌝ }
-    ensures { λ _. ⌜ now (records .exit) ≡ numbersAfter (recordsOf (worldOf book (now (element_data .entry)) (now (prices .entry)) (now (links .entry)) (now (holders .entry)) (now (states .entry)) (now (readings .entry)) (now (blocks .entry)) (now (lines .entry)) (now (sent .entry))) fields (roomIn (now (records .entry)))) (now (records .entry)) ⌝ }
-{
-    let room = records.len() / 6;
-    let mut moved = [0u64; 1024];
-    let count = due_within(
-        book,
-        element_data,
-        prices,
-        links,
-        holders,
-        states,
-        readings,
-        blocks,
-        lines,
-        sent,
-        room,
-        fields,
-        &mut moved,
-    );
-    put_records(book, lines, sent, &moved, count, records);
-}
-
-// The same: only a round has records, so that no other message looks for them.
-fn list_within(
-    book: Book,
-    element_data: &[u8],
-    prices: &[i64],
-    links: &[u64],
-    holders: &[u64],
-    states: &[u64],
-    readings: &[u32],
-    blocks: &[u8],
-    lines: &[i64],
-    sent: &[i64],
-    records: &mut [i64],
-    fields: Fields,
-)
-    requires { ⌜ Whole (worldOf book (now element_data) (now prices) (now links) (now holders) (now states) (now readings) (now blocks) (now lines) (now sent)) ⌝ }
-    ensures { λ _. ⌜ now (records .exit) ≡ numbersAfter (recordsOf (worldOf book (now (element_data .entry)) (now (prices .entry)) (now (links .entry)) (now (holders .entry)) (now (states .entry)) (now (readings .entry)) (now (blocks .entry)) (now (lines .entry)) (now (sent .entry))) fields (roomIn (now (records .entry)))) (now (records .entry)) ⌝ }
-{
-    if fields.kind == 8 {
-        put_due_within(
-            book,
-            element_data,
-            prices,
-            links,
-            holders,
-            states,
-            readings,
-            blocks,
-            lines,
-            sent,
-            records,
-            fields,
-        );
-    }
-}
-
-// The same of any book and any tables.
-fn put_due(
-    book: Book,
-    element_data: &[u8],
-    prices: &[i64],
-    links: &[u64],
-    holders: &[u64],
-    states: &[u64],
-    readings: &[u32],
-    blocks: &[u8],
-    lines: &[i64],
-    sent: &[i64],
-    records: &mut [i64],
-    fields: Fields,
-)
-    ensures { λ _. ⌜ now (records .exit) ≡ numbersAfter (recordsOf (worldOf book (now (element_data .entry)) (now (prices .entry)) (now (links .entry)) (now (holders .entry)) (now (states .entry)) (now (readings .entry)) (now (blocks .entry)) (now (lines .entry)) (now (sent .entry))) fields (roomIn (now (records .entry)))) (now (records .entry)) ⌝ }
-{
-    let room = records.len() / 6;
-    let mut moved = [0u64; 1024];
-    let count = due(
-        book,
-        element_data,
-        prices,
-        links,
-        holders,
-        states,
-        readings,
-        blocks,
-        lines,
-        sent,
-        room,
-        fields,
-        &mut moved,
-    );
-    put_records(book, lines, sent, &moved, count, records);
-}
-
-// The same: only a round has records.
-fn list_any(
-    book: Book,
-    element_data: &[u8],
-    prices: &[i64],
-    links: &[u64],
-    holders: &[u64],
-    states: &[u64],
-    readings: &[u32],
-    blocks: &[u8],
-    lines: &[i64],
-    sent: &[i64],
-    records: &mut [i64],
-    fields: Fields,
-)
-    ensures { λ _. ⌜ now (records .exit) ≡ numbersAfter (recordsOf (worldOf book (now (element_data .entry)) (now (prices .entry)) (now (links .entry)) (now (holders .entry)) (now (states .entry)) (now (readings .entry)) (now (blocks .entry)) (now (lines .entry)) (now (sent .entry))) fields (roomIn (now (records .entry)))) (now (records .entry)) ⌝ }
-{
-    if fields.kind == 8 {
-        put_due(
-            book,
-            element_data,
-            prices,
-            links,
-            holders,
-            states,
-            readings,
-            blocks,
-            lines,
-            sent,
-            records,
-            fields,
-        );
-    }
-}
-
-// A message of a book that is well formed, and stays so. Cost: as for `take_within`.
-pub fn message_within(
-    book: Book,
-    element_data: &[u8],
-    prices: &[i64],
-    links: &mut [u64],
-    holders: &mut [u64],
-    states: &mut [u64],
-    readings: &mut [u32],
-    blocks: &mut [u8],
-    lines: &mut [i64],
-    sent: &mut [i64],
-    records: &mut [i64],
-    fields: Fields,
-) -> Reply
-    requires { ⌜ Whole (worldOf book (now element_data) (now prices) (now links) (now holders) (now states) (now readings) (now blocks) (now lines) (now sent)) ⌝ }
-    ensures { λ r. ⌜ Replied (worldOf book (now (element_data .entry)) (now (prices .entry)) (now (links .entry)) (now (holders .entry)) (now (states .entry)) (now (readings .entry)) (now (blocks .entry)) (now (lines .entry)) (now (sent .entry))) (worldOf (r .book) (now (element_data .entry)) (now (prices .entry)) (now (links .exit)) (now (holders .exit)) (now (states .exit)) (now (readings .exit)) (now (blocks .exit)) (now (lines .exit)) (now (sent .exit))) fields r (now (records .entry)) (now (records .exit)) × Whole (worldOf (r .book) (now (element_data .entry)) (now (prices .entry)) (now (links .exit)) (now (holders .exit)) (now (states .exit)) (now (readings .exit)) (now (blocks .exit)) (now (lines .exit)) (now (sent .exit))) ⌝ }
-{
-    let room = records.len() / 6;
-    list_within(
-        book,
-        element_data,
-        prices,
-        links,
-        holders,
-        states,
-        readings,
-        blocks,
-        lines,
-        sent,
-        records,
-        fields,
-    );
-    take_within(
-        book,
-        element_data,
-        prices,
-        links,
-        holders,
-        states,
-        readings,
-        blocks,
-        lines,
-        sent,
-        room,
-        fields,
-    )
-}
-
-// A message of any book and any tables: questions 2 to 18. A refusal leaves book, tables and list as they were.
+// A message of a book that is well formed, and stays so; six numbers for each record of the list. A refusal leaves book, tables and list as
+// they were. Cost: of a round linear in the lines; of another message as above.
 pub fn message(
     book: Book,
     element_data: &[u8],
@@ -723,35 +233,61 @@ pub fn message(
     records: &mut [i64],
     fields: Fields,
 ) -> Reply
-    ensures { λ r. ⌜ Replied (worldOf book (now (element_data .entry)) (now (prices .entry)) (now (links .entry)) (now (holders .entry)) (now (states .entry)) (now (readings .entry)) (now (blocks .entry)) (now (lines .entry)) (now (sent .entry))) (worldOf (r .book) (now (element_data .entry)) (now (prices .entry)) (now (links .exit)) (now (holders .exit)) (now (states .exit)) (now (readings .exit)) (now (blocks .exit)) (now (lines .exit)) (now (sent .exit))) fields r (now (records .entry)) (now (records .exit)) ⌝ }
+    requires { ⌜ Whole (worldIn book (given element_data prices links holders states readings blocks lines sent)) ⌝ }
+    ensures replied { λ r. ⌜ (let t = lent element_data prices links holders states readings blocks lines sent in
+        Replied (worldIn book (t .entry)) (worldIn (r .book) (t .exit)) fields r (was records) (left records)) ⌝ }
+    ensures whole { λ r. ⌜ (let t = lent element_data prices links holders states readings blocks lines sent in
+        Whole (worldIn (r .book) (t .exit))) ⌝ }
 {
-    let room = records.len() / 6;
-    list_any(
-        book,
-        element_data,
-        prices,
-        links,
-        holders,
-        states,
-        readings,
-        blocks,
-        lines,
-        sent,
-        records,
-        fields,
-    );
-    take(
-        book,
-        element_data,
-        prices,
-        links,
-        holders,
-        states,
-        readings,
-        blocks,
-        lines,
-        sent,
-        room,
-        fields,
-    )
+    let understood = understand(book.suppliers, fields);
+    let Understood::Passed(m) = understood else {
+        return refused(Answer::OutOfRange, book);
+    };
+    let decision = decide(book, element_data, links, holders, states, blocks, m);
+    if number(decision) != 0 {
+        return refused(decision, book);
+    }
+    let body = m.body;
+    match body {
+        Body::Reading {
+            point,
+            day,
+            hour,
+            energy,
+        } => {
+            let new = NewReading {
+                point,
+                day,
+                hour,
+                energy,
+            };
+            apply_reading(
+                book,
+                element_data,
+                prices,
+                links,
+                holders,
+                states,
+                readings,
+                lines,
+                new,
+            )
+        }
+        Body::Block { point, blocked } => {
+            write_block(blocks, point, blocked);
+            accepted(book, 0)
+        }
+        Body::Round => send(book, lines, sent, records),
+        _ => apply_lines(
+            book,
+            element_data,
+            prices,
+            links,
+            holders,
+            states,
+            readings,
+            lines,
+            body,
+        ),
+    }
 }

@@ -10,7 +10,7 @@ use lib.Dec.{T, eqb, leb, ltb, ltb→lt}
 use lib.IntN.{ℤ}
 use lib.ListN.{length, take, length-take}
 use borrow.Author.Tests.{eq-eqb, ne-eqb, eqb-true}
-use Rattle.calendar.specs.MonthLaws.{month-within}
+use Rattle.calendar.proofs.MonthLaws.{month-within}
 use Rattle.rules.specs.declared.Answer.{Answer}
 use Rattle.rules.specs.declared.Book.{Book}
 use Rattle.rules.specs.declared.Fields.{Fields}
@@ -25,7 +25,7 @@ use Rattle.rules.specs.Opening.{openingAnswer, afterOpening}
 use Rattle.rules.specs.Queries.{LineResult, lineNumber, lineQuery, lineNamed, lineRefused, periodsNumber, periodsQuery, dayNumber, lacksHolder}
 use Rattle.rules.specs.Answers.{numberOf, lineResult}
 use Rattle.rules.proofs.Tests.{cases}
-use Rattle.rules.proofs.Parts.{Whole}
+use Rattle.rules.specs.Whole.{Whole}
 use Rattle.rules.proofs.Stored.{billionths-lt}
 use Rattle.rules.proofs.LineQuery.{query-stored}
 use Rattle.rules.proofs.Begin.{passed, begin-whole}

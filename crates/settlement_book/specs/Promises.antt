@@ -15,7 +15,7 @@ use Rattle.rules.specs.Effects.{answer, step, recordsOf}
 use Rattle.rules.specs.Queries.{lineNumber, lineQuery, lineNamed, periodsNumber, periodsQuery, dayNumber, DayNamed, NoDayNamed}
 use Rattle.rules.specs.Fresh.{freshFacts}
 use Rattle.rules.specs.Claim.{Event, reached}
-use Rattle.rounds.specs.RecordNumbers.{numbersAfter}
+use Rattle.ledger.specs.RecordNumbers.{numbersAfter}
 use Rattle.settlement.specs.Replies.{roomIn}
 use Rattle.settlement_book.specs.Numbers.{numbersIn, lineNumbers, frontOf, noDay}
 

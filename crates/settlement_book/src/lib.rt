@@ -5,10 +5,10 @@ ghost use lib.ListN.{length};
 ghost use Prim.Native.Nat.{_≤_};
 ghost use Rattle.rules.specs.World.{worldOf};
 ghost use Rattle.rules.specs.Answers.{lineResult};
-ghost use Rattle.rules.proofs.Parts.{Whole};
+ghost use Rattle.rules.specs.Whole.{Whole};
 ghost use Rattle.settlement_book.specs.Numbers.{bookIn, numbersIn, fieldsIn, freshIn, lineAfter, InKrone, frontOf, dayAfter, dayAnswerNumber};
 ghost use Rattle.settlement_book.specs.Promises.{OpensIn, RepliesIn, LineIn, PeriodsIn, DayIn};
-use messages::number;
+ghost use Rattle.rules.specs.Lent.{left, was};
 use queries::day_without_holder;
 use queries::day_without_holder_within;
 use queries::line_within;
@@ -23,12 +23,13 @@ use rules::LineAnswer;
 use rules::Opened;
 use settlement::message;
 use settlement::message_within;
+use validation::questions::number;
 
 // ---- a book and a message as numbers
 
 fn book_of(numbers: &[u64]) -> Book
     requires { ⌜ length (now numbers) ≡ 9 ⌝ }
-    ensures { λ r. ⌜ r ≡ bookIn (now (numbers .entry)) ⌝ }
+    ensures { λ r. ⌜ r ≡ bookIn (was numbers) ⌝ }
 {
     Book {
         year: numbers[0],
@@ -45,7 +46,7 @@ fn book_of(numbers: &[u64]) -> Book
 
 fn put_book(numbers: &mut [u64], book: Book)
     requires { ⌜ length (now numbers) ≡ 9 ⌝ }
-    ensures { λ _. ⌜ now (numbers .exit) ≡ numbersIn book ⌝ }
+    ensures { λ _. ⌜ left numbers ≡ numbersIn book ⌝ }
 {
     numbers[0] = book.year;
     numbers[1] = book.month;
@@ -60,7 +61,7 @@ fn put_book(numbers: &mut [u64], book: Book)
 
 fn fields_of(numbers: &[u64]) -> Fields
     requires { ⌜ length (now numbers) ≡ 9 ⌝ }
-    ensures { λ r. ⌜ r ≡ fieldsIn (now (numbers .entry)) ⌝ }
+    ensures { λ r. ⌜ r ≡ fieldsIn (was numbers) ⌝ }
 {
     Fields {
         kind: numbers[0],
@@ -93,7 +94,7 @@ pub extern "C" fn settlement_book_open(
     sent: &mut [i64],
 ) -> u64
     requires { ⌜ length (now book) ≡ 9 ⌝ }
-    ensures { λ r. ⌜ OpensIn (worldOf (freshIn (now (book .entry))) (now (element_data .entry)) (now (prices .entry)) (now (links .entry)) (now (holders .entry)) (now (states .entry)) (now (readings .entry)) (now (blocks .entry)) (now (lines .entry)) (now (sent .entry))) (worldOf (freshIn (now (book .entry))) (now (element_data .entry)) (now (prices .entry)) (now (links .exit)) (now (holders .exit)) (now (states .exit)) (now (readings .exit)) (now (blocks .exit)) (now (lines .exit)) (now (sent .exit))) (now (book .entry)) (now (book .exit)) r × (r ≡ 0 → Whole (worldOf (bookIn (now (book .exit))) (now (element_data .entry)) (now (prices .entry)) (now (links .exit)) (now (holders .exit)) (now (states .exit)) (now (readings .exit)) (now (blocks .exit)) (now (lines .exit)) (now (sent .exit)))) ⌝ }
+    ensures { λ r. ⌜ OpensIn (worldOf (freshIn (was book)) (was element_data) (was prices) (was links) (was holders) (was states) (was readings) (was blocks) (was lines) (was sent)) (worldOf (freshIn (was book)) (was element_data) (was prices) (left links) (left holders) (left states) (left readings) (left blocks) (left lines) (left sent)) (was book) (left book) r × (r ≡ 0 → Whole (worldOf (bookIn (left book)) (was element_data) (was prices) (left links) (left holders) (left states) (left readings) (left blocks) (left lines) (left sent))) ⌝ }
 {
     let lent = book_of(book);
     let opened = open(
@@ -142,7 +143,7 @@ pub extern "C" fn settlement_book_message(
     count: &mut u64,
 ) -> u64
     requires { ⌜ (length (now book) ≡ 9) × (length (now fields) ≡ 9) ⌝ }
-    ensures { λ r. ⌜ RepliesIn (worldOf (bookIn (now (book .entry))) (now (element_data .entry)) (now (prices .entry)) (now (links .entry)) (now (holders .entry)) (now (states .entry)) (now (readings .entry)) (now (blocks .entry)) (now (lines .entry)) (now (sent .entry))) (worldOf (bookIn (now (book .exit))) (now (element_data .entry)) (now (prices .entry)) (now (links .exit)) (now (holders .exit)) (now (states .exit)) (now (readings .exit)) (now (blocks .exit)) (now (lines .exit)) (now (sent .exit))) (fieldsIn (now (fields .entry))) r (now (count .exit)) (now (records .entry)) (now (records .exit)) ⌝ }
+    ensures { λ r. ⌜ RepliesIn (worldOf (bookIn (was book)) (was element_data) (was prices) (was links) (was holders) (was states) (was readings) (was blocks) (was lines) (was sent)) (worldOf (bookIn (left book)) (was element_data) (was prices) (left links) (left holders) (left states) (left readings) (left blocks) (left lines) (left sent)) (fieldsIn (was fields)) r (left count) (was records) (left records) ⌝ }
 {
     let reply = message(
         book_of(book),
@@ -184,7 +185,7 @@ pub extern "C" fn settlement_book_message_within(
 ) -> u64
     requires { ⌜ (length (now book) ≡ 9) × (length (now fields) ≡ 9) ⌝ }
     requires { ⌜ Whole (worldOf (bookIn (now book)) (now element_data) (now prices) (now links) (now holders) (now states) (now readings) (now blocks) (now lines) (now sent)) ⌝ }
-    ensures { λ r. ⌜ RepliesIn (worldOf (bookIn (now (book .entry))) (now (element_data .entry)) (now (prices .entry)) (now (links .entry)) (now (holders .entry)) (now (states .entry)) (now (readings .entry)) (now (blocks .entry)) (now (lines .entry)) (now (sent .entry))) (worldOf (bookIn (now (book .exit))) (now (element_data .entry)) (now (prices .entry)) (now (links .exit)) (now (holders .exit)) (now (states .exit)) (now (readings .exit)) (now (blocks .exit)) (now (lines .exit)) (now (sent .exit))) (fieldsIn (now (fields .entry))) r (now (count .exit)) (now (records .entry)) (now (records .exit)) × Whole (worldOf (bookIn (now (book .exit))) (now (element_data .entry)) (now (prices .entry)) (now (links .exit)) (now (holders .exit)) (now (states .exit)) (now (readings .exit)) (now (blocks .exit)) (now (lines .exit)) (now (sent .exit))) ⌝ }
+    ensures { λ r. ⌜ RepliesIn (worldOf (bookIn (was book)) (was element_data) (was prices) (was links) (was holders) (was states) (was readings) (was blocks) (was lines) (was sent)) (worldOf (bookIn (left book)) (was element_data) (was prices) (left links) (left holders) (left states) (left readings) (left blocks) (left lines) (left sent)) (fieldsIn (was fields)) r (left count) (was records) (left records) × Whole (worldOf (bookIn (left book)) (was element_data) (was prices) (left links) (left holders) (left states) (left readings) (left blocks) (left lines) (left sent)) ⌝ }
 {
     let reply = message_within(
         book_of(book),
@@ -212,7 +213,7 @@ pub extern "C" fn settlement_book_message_within(
 // The line's three numbers, or the question that says no; a refusal writes nothing.
 fn put_line(answer: LineAnswer, line: &mut [i64]) -> u64
     requires { ⌜ (length (now line) ≡ 3) × InKrone answer ⌝ }
-    ensures { λ r. ⌜ (r ≡ lineResult answer .number) × (now (line .exit) ≡ lineAfter answer (now (line .entry))) ⌝ }
+    ensures { λ r. ⌜ (r ≡ lineResult answer .number) × (left line ≡ lineAfter answer (was line)) ⌝ }
 {
     match answer {
         LineAnswer::Line {
@@ -229,8 +230,8 @@ fn put_line(answer: LineAnswer, line: &mut [i64]) -> u64
     }
 }
 
-// The quantity, kroner and billionths of a supplier and an element, of any book and any tables. Linear in what is lent, for the questions of
-// the book.
+// The quantity, kroner and billionths of a supplier and an element, of any book and any tables. Linear in what is lent, for the questions
+// of the book.
 #[no_mangle]
 pub extern "C" fn settlement_book_line(
     book: &[u64],
@@ -248,7 +249,7 @@ pub extern "C" fn settlement_book_line(
     line: &mut [i64],
 ) -> u64
     requires { ⌜ (length (now book) ≡ 9) × (length (now line) ≡ 3) ⌝ }
-    ensures { λ r. ⌜ LineIn (worldOf (bookIn (now (book .entry))) (now (element_data .entry)) (now (prices .entry)) (now (links .entry)) (now (holders .entry)) (now (states .entry)) (now (readings .entry)) (now (blocks .entry)) (now (lines .entry)) (now (sent .entry))) supplier element r (now (line .entry)) (now (line .exit)) ⌝ }
+    ensures { λ r. ⌜ LineIn (worldOf (bookIn (was book)) (was element_data) (was prices) (was links) (was holders) (was states) (was readings) (was blocks) (was lines) (was sent)) supplier element r (was line) (left line) ⌝ }
 {
     let answer = queries::line(
         book_of(book),
@@ -286,7 +287,7 @@ pub extern "C" fn settlement_book_line_within(
 ) -> u64
     requires { ⌜ (length (now book) ≡ 9) × (length (now line) ≡ 3) ⌝ }
     requires { ⌜ Whole (worldOf (bookIn (now book)) (now element_data) (now prices) (now links) (now holders) (now states) (now readings) (now blocks) (now lines) (now sent)) ⌝ }
-    ensures { λ r. ⌜ LineIn (worldOf (bookIn (now (book .entry))) (now (element_data .entry)) (now (prices .entry)) (now (links .entry)) (now (holders .entry)) (now (states .entry)) (now (readings .entry)) (now (blocks .entry)) (now (lines .entry)) (now (sent .entry))) supplier element r (now (line .entry)) (now (line .exit)) ⌝ }
+    ensures { λ r. ⌜ LineIn (worldOf (bookIn (was book)) (was element_data) (was prices) (was links) (was holders) (was states) (was readings) (was blocks) (was lines) (was sent)) supplier element r (was line) (left line) ⌝ }
 {
     let answer = line_within(
         book_of(book),
@@ -310,7 +311,7 @@ pub extern "C" fn settlement_book_line_within(
 // Linear in the part.
 fn copy_front(part: &[u64], rows: &mut [u64])
     requires { ⌜ length (now part) ≤ length (now rows) ⌝ }
-    ensures { λ _. ⌜ now (rows .exit) ≡ frontOf (now (part .entry)) (now (rows .entry)) ⌝ }
+    ensures { λ _. ⌜ left rows ≡ frontOf (was part) (was rows) ⌝ }
 {
     let mut i = 0;
     while i < part.len() {
@@ -319,8 +320,8 @@ fn copy_front(part: &[u64], rows: &mut [u64])
     }
 }
 
-// Everything recorded for a point and an element of a book that is well formed: the rows at the front of the list, and how many. Logarithmic
-// in the rows of the book, linear in those copied.
+// Everything recorded for a point and an element of a book that is well formed: the rows at the front of the list, and how many.
+// Logarithmic in the rows of the book, linear in those copied.
 #[no_mangle]
 pub extern "C" fn settlement_book_periods_within(
     book: &[u64],
@@ -340,7 +341,7 @@ pub extern "C" fn settlement_book_periods_within(
 ) -> u64
     requires { ⌜ (length (now book) ≡ 9) × (length (now links) ≤ length (now rows)) ⌝ }
     requires { ⌜ Whole (worldOf (bookIn (now book)) (now element_data) (now prices) (now links) (now holders) (now states) (now readings) (now blocks) (now lines) (now sent)) ⌝ }
-    ensures { λ r. ⌜ PeriodsIn (worldOf (bookIn (now (book .entry))) (now (element_data .entry)) (now (prices .entry)) (now (links .entry)) (now (holders .entry)) (now (states .entry)) (now (readings .entry)) (now (blocks .entry)) (now (lines .entry)) (now (sent .entry))) point element r (now (count .exit)) (now (rows .entry)) (now (rows .exit)) ⌝ }
+    ensures { λ r. ⌜ PeriodsIn (worldOf (bookIn (was book)) (was element_data) (was prices) (was links) (was holders) (was states) (was readings) (was blocks) (was lines) (was sent)) point element r (left count) (was rows) (left rows) ⌝ }
 {
     let held = book_of(book);
     let part = periods_within(
@@ -394,7 +395,7 @@ pub extern "C" fn settlement_book_periods(
     count: &mut u64,
 ) -> u64
     requires { ⌜ (length (now book) ≡ 9) × (length (now links) ≤ length (now rows)) ⌝ }
-    ensures { λ r. ⌜ PeriodsIn (worldOf (bookIn (now (book .entry))) (now (element_data .entry)) (now (prices .entry)) (now (links .entry)) (now (holders .entry)) (now (states .entry)) (now (readings .entry)) (now (blocks .entry)) (now (lines .entry)) (now (sent .entry))) point element r (now (count .exit)) (now (rows .entry)) (now (rows .exit)) ⌝ }
+    ensures { λ r. ⌜ PeriodsIn (worldOf (bookIn (was book)) (was element_data) (was prices) (was links) (was holders) (was states) (was readings) (was blocks) (was lines) (was sent)) point element r (left count) (was rows) (left rows) ⌝ }
 {
     let held = book_of(book);
     let asked = number(periods_number(
@@ -438,7 +439,7 @@ pub extern "C" fn settlement_book_periods(
 
 // The day, 36,525 for none, or the question that says no; a refusal writes nothing.
 fn put_day(answer: DayAnswer, day: &mut u64) -> u64
-    ensures { λ r. ⌜ (r ≡ dayAnswerNumber answer) × (now (day .exit) ≡ dayAfter answer (now (day .entry))) ⌝ }
+    ensures { λ r. ⌜ (r ≡ dayAnswerNumber answer) × (left day ≡ dayAfter answer (was day)) ⌝ }
 {
     match answer {
         DayAnswer::Day(found) => {
@@ -471,7 +472,7 @@ pub extern "C" fn settlement_book_day_without_holder(
     day: &mut u64,
 ) -> u64
     requires { ⌜ length (now book) ≡ 9 ⌝ }
-    ensures { λ r. ⌜ DayIn (worldOf (bookIn (now (book .entry))) (now (element_data .entry)) (now (prices .entry)) (now (links .entry)) (now (holders .entry)) (now (states .entry)) (now (readings .entry)) (now (blocks .entry)) (now (lines .entry)) (now (sent .entry))) point r (now (day .entry)) (now (day .exit)) ⌝ }
+    ensures { λ r. ⌜ DayIn (worldOf (bookIn (was book)) (was element_data) (was prices) (was links) (was holders) (was states) (was readings) (was blocks) (was lines) (was sent)) point r (was day) (left day) ⌝ }
 {
     let answer = day_without_holder(
         book_of(book),
@@ -507,7 +508,7 @@ pub extern "C" fn settlement_book_day_without_holder_within(
 ) -> u64
     requires { ⌜ length (now book) ≡ 9 ⌝ }
     requires { ⌜ Whole (worldOf (bookIn (now book)) (now element_data) (now prices) (now links) (now holders) (now states) (now readings) (now blocks) (now lines) (now sent)) ⌝ }
-    ensures { λ r. ⌜ DayIn (worldOf (bookIn (now (book .entry))) (now (element_data .entry)) (now (prices .entry)) (now (links .entry)) (now (holders .entry)) (now (states .entry)) (now (readings .entry)) (now (blocks .entry)) (now (lines .entry)) (now (sent .entry))) point r (now (day .entry)) (now (day .exit)) ⌝ }
+    ensures { λ r. ⌜ DayIn (worldOf (bookIn (was book)) (was element_data) (was prices) (was links) (was holders) (was states) (was readings) (was blocks) (was lines) (was sent)) point r (was day) (left day) ⌝ }
 {
     let answer = day_without_holder_within(
         book_of(book),

@@ -6,45 +6,31 @@ use mathlib.Core.Bool.{true, false, _&&_, cond, false≢true, and-false}
 use mathlib.Core.List.{List, [], _∷_}
 use mathlib.Core.Option.{Option, none, some}
 use lib.Dec.{ltb, leb, eqb}
-use lib.ListN.{length, take}
+use lib.ListN.{length}
 use native.Mathlib.Omega.{arith}
 use borrow.Author.Tests.{eqb-true, eq-eqb}
 use Rattle.rules.specs.Basics.{latest, orElse}
 use Rattle.rules.specs.Fresh.{here}
 use Rattle.rules.specs.Rows.{periodFirst, periodEnd, ofPair, covers, startsOn, insertRow, stopRows, splitRows, packValue, valuePoint, valueFirst, recordedOn, recordRow}
-use Rattle.rules.specs.World.{Table, tableOf, rowsOf}
+use Rattle.rules.specs.World.{Table, tableOf}
 use Rattle.rules.proofs.Tests.{tests, cases, both}
 use Rattle.rules.proofs.Ranges.{latest-cong}
 use Rattle.rules.proofs.Words.{pair-true, pair-is, key-pack}
-use Rattle.rules.proofs.Clauses.{dated, starts-cons, insert-nil, insert-cons, stop-nil, stop-cons, split-nil, split-cons, recorded-nil, recorded-cons, record-nil, record-cons}
+use Rattle.rules.proofs.Clauses.{dated, starts-cons, insert-nil, insert-cons, stop-nil, stop-cons, split-cons, recorded-nil, recorded-cons, record-nil, record-cons}
 use Rattle.rules.proofs.Values.{recorded-pack}
-use Rattle.rules.proofs.Runs.{Run, done, next, linkedIn, linked-nil, linked-cons, linked-from, starts-from, covered}
-use Rattle.rules.proofs.Parts.{rows-table}
-use Rattle.tables.specs.Order.{Rising, nil, row, LinkRows, ValueRows, ClearBehind}
-use Rattle.tables.specs.Search.{nextRecorded, given, Changed}
+use Rattle.rules.specs.Order.{Run, done, next, linkedIn}
+use Rattle.rules.proofs.Runs.{linked-nil, linked-cons, linked-from, starts-from, covered}
+use Rattle.tables.specs.Order.{Rising, nil, row}
+use Rattle.tables.specs.Search.{nextRecorded, isGiven, Changed}
 use Rattle.tables.proofs.Order.{div-le-div}
-use Rattle.tables.proofs.Parts.{clear-table}
 use Rattle.tables.proofs.Values.{key-parts, recorded-later, not-dated}
 
 -- ---- what a change leaves
 
-module _ {rows words : List ℕ} {used : ℕ} (c : Changed rows words used) where
-  pub changed-table : _≡_ {A = Table} (record { used = used; words = words }) (tableOf rows)
-  unfolding tableOf
-  changed-table = rw (c .count, c .is)
-
-  pub changed-rows : take used words ≡ rows
-  unfolding rowsOf
-  changed-rows = ap rowsOf changed-table ∙ rows-table rows
-
-  pub changed-clear : length rows ≤ 1024 → ClearBehind words used
-  changed-clear h = rw (c .is, c .count) (clear-table rows h)
-
-  pub changed-links : length rows ≤ 1024 → Run 0 rows → LinkRows words used
-  changed-links h r = let k = changed-clear h in let l = k .long in let m = k .count in record { fits = omega arith; run = rw changed-rows r }
-
-  pub changed-values : (size : ℕ) → length rows ≤ 1024 → Rising (λ w. w / size) 0 rows → ValueRows size words used
-  changed-values size h r = let k = changed-clear h in let l = k .long in let m = k .count in record { fits = omega arith; order = rw changed-rows r }
+pub changed-table : {rows words : List ℕ} {used : ℕ} → Changed rows words used
+    → _≡_ {A = Table} (record { used = used; words = words }) (tableOf rows)
+unfolding tableOf
+changed-table c = rw (c .count, c .is)
 
 -- ---- how many rows there are then
 
@@ -63,33 +49,28 @@ length-stop p e d (w ∷ ws) = let ih = length-stop p e d ws in rw stop-cons (ca
     (λ t. rw t (omega arith))
     (λ t. rw t (cases (ofPair p e w && ltb d (periodEnd w)) (λ u. rw u (suc-le-suc ih)) (λ u. rw u (suc-le-suc ih)))))
 
-module _ (p e d q : ℕ) where
-  pub split-unlinked : (ws : List ℕ) → linkedIn ws p e d ≡ false → splitRows p e d q ws ≡ ws
-  split-unlinked [] l = split-nil p e d q
-  split-unlinked (w ∷ ws) l = cases (covers p e d w)
-      (λ t. absurd (false≢true (sym l ∙ rw (linked-cons, t))))
-      (λ t. rw (split-cons, t) (ap (λ (r : List ℕ). w ∷ r) (split-unlinked ws (simp (linked-cons, t) at l))))
-
-  -- one more, unless a period starts that day
-  pub length-split : {k : ℕ} {ws : List ℕ} → Run k ws → linkedIn ws p e d ≡ true
-      → length (splitRows p e d q ws) ≡ cond (startsOn ws p e d) (length ws) (suc (length ws))
-  length-split done l = absurd (false≢true (sym (linked-nil p e d) ∙ l))
-  length-split (next {w = w} {ws = ws} i j c r) l = rw (split-cons, starts-cons) (cases (covers p e d w)
-      (λ t. let m = covered p e d w t in
-      let o = pair-is p e w (m .0) (m .1) in
-      let s : startsOn ws p e d ≡ false = cases (startsOn ws p e d) (λ v. let f = starts-from p e d r v in absurd (omega arith)) (λ v. v) in
-      cases (eqb (periodFirst w) d) (λ v. rw (t, v, o)) (λ v. rw (t, v, o, s)))
-      (λ t. let l′ : linkedIn ws p e d ≡ true = simp (linked-cons, t) at l in
-      let f = linked-from p e d r l′ in
-      let n : (ofPair p e w && eqb (periodFirst w) d) ≡ false = cases (ofPair p e w)
-      (λ o. let m = pair-true p e w o in let v : eqb (periodFirst w) d ≡ false = omega (arith, tests) in rw (o, v))
-      (λ o. rw o) in
-      rw (t, n) (ap suc (length-split r l′) ∙ (cases (startsOn ws p e d) (λ v. rw v) (λ v. rw v)))))
+-- one more, unless a period starts that day
+pub length-split : (p e d q : ℕ) {k : ℕ} {ws : List ℕ} → Run k ws → linkedIn ws p e d ≡ true
+    → length (splitRows p e d q ws) ≡ cond (startsOn ws p e d) (length ws) (suc (length ws))
+length-split p e d q done l = absurd (false≢true (sym (linked-nil p e d) ∙ l))
+length-split p e d q (next {w = w} {ws = ws} i j c r) l = rw (split-cons, starts-cons) (cases (covers p e d w)
+    (λ t. let m = covered p e d w t in
+    let o = pair-is p e w (m .0) (m .1) in
+    let s : startsOn ws p e d ≡ false = cases (startsOn ws p e d)
+    (λ v. let f = starts-from p e d r v in absurd (omega arith))
+    (λ v. v) in
+    cases (eqb (periodFirst w) d) (λ v. rw (t, v, o)) (λ v. rw (t, v, o, s)))
+    (λ t. let l′ : linkedIn ws p e d ≡ true = simp (linked-cons, t) at l in
+    let f = linked-from p e d r l′ in
+    let n : (ofPair p e w && eqb (periodFirst w) d) ≡ false = cases (ofPair p e w)
+    (λ o. let m = pair-true p e w o in let v : eqb (periodFirst w) d ≡ false = omega (arith, tests) in rw (o, v))
+    (λ o. rw o) in
+    rw (t, n) (ap suc (length-split p e d q r l′) ∙ (cases (startsOn ws p e d) (λ v. rw v) (λ v. rw v)))))
 
 -- ---- dated values
 
-given-suc : (o : Option ℕ) (n : ℕ) → suc (cond (given o) n (suc n)) ≡ cond (given o) (suc n) (suc (suc n))
-unfolding given
+given-suc : (o : Option ℕ) (n : ℕ) → suc (cond (isGiven o) n (suc n)) ≡ cond (isGiven o) (suc n) (suc (suc n))
+unfolding isGiven
 given-suc none n = refl
 given-suc (some v) n = refl
 
@@ -103,8 +84,8 @@ module _ (size : ℕ) where
 
   -- one more, unless one is recorded for that point and day
   pub length-record : 0 < size → (p a v : ℕ) → a < 65536 → v < size → {k : ℕ} {ws : List ℕ} → Rising (λ w. w / size) k ws
-      → length (recordRow size (packValue size p a v) ws) ≡ cond (given (recordedOn size ws p a)) (length ws) (suc (length ws))
-  unfolding given
+      → length (recordRow size (packValue size p a v) ws) ≡ cond (isGiven (recordedOn size ws p a)) (length ws) (suc (length ws))
+  unfolding isGiven
   length-record pos p a v ha hv nil = rw (record-nil, recorded-nil)
   length-record pos p a v ha hv (row {w = x} {ws = xs} i m) =
       let w = packValue size p a v in
@@ -133,8 +114,8 @@ module _ (size : ℕ) where
       (λ u. u) in
       rw (recorded-cons, n) (next-clear p a d ws h l′))
 
-  next-given : (p a : ℕ) (ws : List ℕ) → nextRecorded size ws p a < 36525 → given (recordedOn size ws p (nextRecorded size ws p a)) ≡ true
-  unfolding nextRecorded given
+  next-given : (p a : ℕ) (ws : List ℕ) → nextRecorded size ws p a < 36525 → isGiven (recordedOn size ws p (nextRecorded size ws p a)) ≡ true
+  unfolding nextRecorded isGiven
   next-given p a [] l = absurd (omega arith)
   next-given p a (w ∷ ws) l = cases (eqb (valuePoint size w) p && ltb a (valueFirst size w))
       (λ t. let l′ : min (valueFirst size w) (nextRecorded size ws p a) < 36525 = rw t at l in
@@ -156,9 +137,10 @@ module _ (size : ℕ) where
       (λ t. rw t ih)
 
 -- a value put in on day a rules up to the day n on which the next one is recorded
-module _ (f : ℕ → Option ℕ) (a v n : ℕ) (after : a < n) (clear : (d : ℕ) → a < d → d < n → f d ≡ none) (at : n < 36525 → given (f n) ≡ true) where
-  over : (o : Option ℕ) (x y : ℕ) → given o ≡ true → orElse o x ≡ orElse o y
-  unfolding given orElse
+module _ (f : ℕ → Option ℕ) (a v n : ℕ) (after : a < n) (clear : (d : ℕ) → a < d → d < n → f d ≡ none)
+    (at : n < 36525 → isGiven (f n) ≡ true) where
+  over : (o : Option ℕ) (x y : ℕ) → isGiven o ≡ true → orElse o x ≡ orElse o y
+  unfolding isGiven orElse
   over none x y h = absurd (false≢true h)
   over (some u) x y h = refl
 
@@ -171,22 +153,21 @@ module _ (f : ℕ → Option ℕ) (a v n : ℕ) (after : a < n) (clear : (d : �
       (λ t. let x : leb a (suc d) ≡ true = omega (arith, tests) in let y : ltb (suc d) n ≡ true = omega (arith, tests) in rw (t, x, y))
       (λ t. let ih = latest-put d (omega arith) in cases (leb a d)
       (λ u. let x : leb a (suc d) ≡ true = omega (arith, tests) in cases (ltb (suc d) n)
-      (λ y. let z : ltb d n ≡ true = omega (arith, tests) in rw (t, x, y, clear (suc d) (omega (arith, tests)) (omega (arith, tests)), ih, u, z))
+      (λ y. let z : ltb d n ≡ true = omega (arith, tests) in
+      rw (t, x, y, clear (suc d) (omega (arith, tests)) (omega (arith, tests)), ih, u, z))
       (λ y. cases (eqb n (suc d))
-      (λ e. let g : given (f (suc d)) ≡ true = rw (eqb-true n (suc d) e) at (at (omega (arith, tests))) in rw (t, x, y) (over (f (suc d)) _ _ g))
+      (λ e. let g : isGiven (f (suc d)) ≡ true = rw (eqb-true n (suc d) e) at (at (omega (arith, tests))) in
+      rw (t, x, y) (over (f (suc d)) _ _ g))
       (λ e. let z : ltb d n ≡ false = omega (arith, tests) in rw (t, x, y, ih, u, z))))
       (λ u. let x : leb a (suc d) ≡ false = omega (arith, tests) in rw (t, x, ih, u)))
 
-module _ (size p a v : ℕ) (ha : a < 36525) (hv : v < size) (ws : List ℕ) where
-  -- the new value from its day up to the next recorded one, the old ones elsewhere
-  pub latest-record : (d : ℕ) → d < 36525 → latest (recordedOn size (recordRow size (packValue size p a v) ws) p) d
-      ≡ cond (leb a d && ltb d (nextRecorded size ws p a)) v (latest (recordedOn size ws p) d)
-  unfolding here
-  latest-record d h =
-      latest-cong _ (λ i. cond (eqb i a) (some v) (recordedOn size ws p i)) d (λ i. recorded-pack size p a v (omega arith) hv ws p i ∙ rw (eq-eqb p p refl))
-      ∙ latest-put (recordedOn size ws p) a v (nextRecorded size ws p a) (next-after size p a ws ha) (λ i k l. next-clear size p a i ws k l) (next-given size p a ws) d h
-
-  -- nothing changes for another point
-  pub latest-record-other : (p′ d : ℕ) → eqb p′ p ≡ false → latest (recordedOn size (recordRow size (packValue size p a v) ws) p′) d ≡ latest (recordedOn size ws p′) d
-  unfolding here
-  latest-record-other p′ d h = latest-cong _ (recordedOn size ws p′) d (λ i. recorded-pack size p a v (omega arith) hv ws p′ i ∙ rw h)
+-- the new value from its day up to the next recorded one, the old ones elsewhere
+pub latest-record : (size p a v : ℕ) → a < 36525 → v < size → (ws : List ℕ) (d : ℕ) → d < 36525
+    → latest (recordedOn size (recordRow size (packValue size p a v) ws) p) d
+    ≡ cond (leb a d && ltb d (nextRecorded size ws p a)) v (latest (recordedOn size ws p) d)
+unfolding here
+latest-record size p a v ha hv ws d h =
+    latest-cong _ (λ i. cond (eqb i a) (some v) (recordedOn size ws p i)) d
+    (λ i. recorded-pack size p a v (omega arith) hv ws p i ∙ rw (eq-eqb p p refl))
+    ∙ latest-put (recordedOn size ws p) a v (nextRecorded size ws p a) (next-after size p a ws ha)
+    (λ i k l. next-clear size p a i ws k l) (next-given size p a ws) d h

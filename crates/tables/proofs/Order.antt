@@ -10,9 +10,9 @@ use native.Mathlib.Omega.{arith}
 use native.Mathlib.Nat.{le-refl, le-trans, le-of-suc-le-suc, not-suc-le-zero, le-div-iff-mul-le, div-mul-le-self}
 use borrow.Author.Tests.{lt-ltb, le-ltb, ltb-true}
 use Rattle.rules.proofs.Tests.{tests, cases}
-use Rattle.rules.proofs.Words.{from, from-lt}
-use Rattle.rules.proofs.Runs.{Run, done, next}
-use Rattle.tables.specs.Order.{Rising, nil, row}
+use Rattle.rules.specs.Order.{from, Run, done, next}
+use Rattle.rules.proofs.Words.{from-lt}
+use Rattle.tables.specs.Order.{Rising, nil, row, OrderedRows, LinkRows, ValueRows}
 use Rattle.tables.specs.Search.{rowsBelow}
 
 -- ---- by place
@@ -50,12 +50,8 @@ below-is [] (suc n) x r f h b a = absurd (not-suc-le-zero f)
 below-is (y ∷ ys) (suc n) x zero f h b a = rw (le-ltb y x (a 0 zero-le (omega arith)))
 below-is (y ∷ ys) (suc n) x (suc r) f h b a =
     rw (lt-ltb y x (b 0 (omega arith)))
-    (ap suc (below-is ys n x r (le-of-suc-le-suc f) (le-of-suc-le-suc h) (λ k l. b (suc k) (suc-le-suc l)) (λ k l m. a (suc k) (suc-le-suc l) (suc-le-suc m))))
-
-pub below-le : (x : ℕ) (ws : List ℕ) → rowsBelow x ws ≤ length ws
-unfolding rowsBelow
-below-le x [] = zero-le
-below-le x (w ∷ ws) = cases (ltb w x) (λ t. rw t (suc-le-suc (below-le x ws))) (λ t. rw t zero-le)
+    (ap suc (below-is ys n x r (le-of-suc-le-suc f) (le-of-suc-le-suc h)
+    (λ k l. b (suc k) (suc-le-suc l)) (λ k l m. a (suc k) (suc-le-suc l) (suc-le-suc m))))
 
 -- ---- the three orders
 
@@ -82,6 +78,13 @@ module _ (size : ℕ) (pos : 0 < size) where
   pub values-rising : {k : ℕ} {ws : List ℕ} → Rising (λ v. v / size) k ws → Rising (λ v. v) 0 ws
   values-rising nil = nil
   values-rising (row {w = w} i m) = row zero-le (values-above m w (omega arith))
+
+-- so the rows of each table are in order
+pub link-order : {words : List ℕ} {used : ℕ} → LinkRows words used → OrderedRows words used
+link-order l = record { fits = l .fits; order = run-rising (l .run) }
+
+pub value-order : {size : ℕ} {words : List ℕ} {used : ℕ} → 0 < size → ValueRows size words used → OrderedRows words used
+value-order {size} pos v = record { fits = v .fits; order = values-rising size pos (v .order) }
 
 -- a greater word has no fewer rows below it
 pub below-mono : (x y : ℕ) → x ≤ y → (ws : List ℕ) → rowsBelow x ws ≤ rowsBelow y ws

@@ -3,7 +3,7 @@ use Prim.Native.Nat.{ℕ, zero, suc, _+_, _-_, _≤_, _<_}
 use mathlib.Core.Path.{_≡_, refl, sym, ap, _∙_}
 use mathlib.Core.List.{List, [], _∷_, _++_, append-nil, append-assoc}
 use lib.ListN.{length, getD, take, drop, set, replicate, length-append, length-take, length-drop, length-set, length-replicate, take-append-drop, drop-of-length-le, replicate-append-replicate}
-use lib.Seq.{length-take-le, take-take, drop-drop, take-at, drop-at, take-all, take-nil, drop-append-seam, getD-drop, getD-append-add, getD-take, paste-suc, set-append-left, drop-set-lt, take-set-lt}
+use lib.Seq.{length-take-le, take-take, drop-drop, take-at, drop-at, take-all, take-nil, getD-drop, getD-append-add, getD-take, paste-suc, set-append-left, drop-set-lt, take-set-lt}
 use native.Mathlib.Omega.{arith}
 use native.Mathlib.Nat.{le-trans, not-suc-le-zero, le-of-suc-le-suc}
 use native.Mathlib.Numerals.{add-one}
@@ -12,28 +12,34 @@ use Rattle.rules.specs.World.{tableOf}
 use Rattle.tables.specs.Order.{ClearBehind}
 use Rattle.tables.specs.Search.{putIn, without, moved, cutBefore, Changed}
 
--- ---- a shift down: the words before place i are the new one and those before it, the others as they were
+-- ---- a shift down, from the back: the words up to place i are as they were, each behind it is the one that stood before it
 
-shift-suc : (i w : ℕ) (ws : List ℕ) → i < length ws
-    → set (take i (w ∷ ws) ++ drop i ws) i (getD (w ∷ ws) i 0) ≡ take (suc i) (w ∷ ws) ++ drop (suc i) ws
-shift-suc i w [] l = absurd (not-suc-le-zero l)
-shift-suc zero w (x ∷ ws) l = refl
-shift-suc (suc i) w (x ∷ ws) l = ap (λ (t : List ℕ). w ∷ t) (shift-suc i x ws (le-of-suc-le-suc l))
+abbrev pub lowered : (last i : ℕ) → (words : List ℕ) → List ℕ
+lowered m i ws = take (suc i) ws ++ drop i (take m ws)
 
-shift-read : (i w : ℕ) (ws : List ℕ) → i < length ws → getD (take i (w ∷ ws) ++ drop i ws) i 0 ≡ getD ws i 0
-shift-read i w [] l = absurd (not-suc-le-zero l)
-shift-read zero w (x ∷ ws) l = refl
-shift-read (suc i) w (x ∷ ws) l = shift-read i x ws (le-of-suc-le-suc l)
+lowered-suc : (m j : ℕ) (ws : List ℕ) → j < m → m < length ws
+    → set (lowered m (suc j) ws) (suc j) (getD (lowered m (suc j) ws) j 0) ≡ lowered m j ws
+lowered-suc m j [] h l = absurd (not-suc-le-zero l)
+lowered-suc zero j (x ∷ ws) h l = absurd (not-suc-le-zero h)
+lowered-suc (suc m) zero (x ∷ []) h l = absurd (omega arith)
+lowered-suc (suc m) zero (x ∷ y ∷ ws) h l = refl
+lowered-suc (suc m) (suc j) (x ∷ ws) h l = ap (λ (t : List ℕ). x ∷ t) (lowered-suc m j ws (le-of-suc-le-suc h) (le-of-suc-le-suc l))
 
-module _ (i w : ℕ) (ws : List ℕ) where
-  pub shift-more : i < length ws → set (take i (w ∷ ws) ++ drop i ws) i (getD (w ∷ ws) i 0) ≡ take (i + 1) (w ∷ ws) ++ drop (i + 1) ws
-  shift-more l = rw add-one (shift-suc i w ws l)
+module _ (m : ℕ) where
+  pub lowered-none : (ws : List ℕ) → length ws ≡ suc m → ws ≡ lowered m m ws
+  lowered-none ws e =
+      let h : length (take m ws) ≤ m = omega (arith, length-take-le m ws (omega arith)) in
+      rw (take-all (suc m) ws (omega arith), drop-of-length-le (take m ws) h, append-nil)
 
-  pub shift-next : i < length ws → getD (take i (w ∷ ws) ++ drop i ws) i 0 ≡ getD (w ∷ ws) (i + 1) 0
-  shift-next l = rw add-one (shift-read i w ws l)
+  pub lowered-more : (i : ℕ) (ws : List ℕ) → 0 < i → i ≤ m → m < length ws
+      → set (lowered m i ws) i (getD (lowered m i ws) (i - 1) 0) ≡ lowered m (i - 1) ws
+  lowered-more zero ws p h l = absurd (not-suc-le-zero p)
+  lowered-more (suc j) ws p h l = let e : suc j - 1 ≡ j = omega arith in rw e (lowered-suc m j ws h l)
 
-  pub shift-done : i ≤ length ws → length ws ≤ i → 0 < length ws → take i (w ∷ ws) ++ drop i ws ≡ w ∷ take (length ws - 1) ws
-  shift-done h l p = let e : i ≡ suc (length ws - 1) = omega arith in rw (drop-of-length-le ws l, append-nil) (rw e)
+  pub lowered-done : (i : ℕ) (ws : List ℕ) → i ≤ 0 → 0 < length ws → (w : ℕ) → set (lowered m i ws) 0 w ≡ w ∷ take m ws
+  lowered-done (suc i) ws h l w = absurd (not-suc-le-zero h)
+  lowered-done zero [] h l w = absurd (not-suc-le-zero l)
+  lowered-done zero (x ∷ ws) h l w = refl
 
 -- ---- a move up
 
@@ -58,18 +64,29 @@ pub moved-none : (gap : ℕ) (ws : List ℕ) → ws ≡ moved gap ws 0
 unfolding moved
 moved-none gap ws = refl
 
+-- by one place, with a 0 at the end
+module _ (ws : List ℕ) where
+  pub raised-more : (i : ℕ) → i + 1 < length ws → set (moved 1 ws i) i (getD (moved 1 ws i) (i + 1) 0) ≡ moved 1 ws (i + 1)
+  raised-more i h = let e : 1 + i ≡ i + 1 = omega arith in rw e at (moved-more 1 ws i (omega arith))
+
+  raised-last : (x n : ℕ) (ws : List ℕ) → length ws ≡ n → set (take n ws ++ drop n (x ∷ ws)) n 0 ≡ ws ++ (0 ∷ [])
+  raised-last x zero [] e = refl
+  raised-last x zero (y ∷ ws) e = absurd (omega arith)
+  raised-last x (suc n) [] e = absurd (omega arith)
+  raised-last x (suc n) (y ∷ ws) e = ap (λ (t : List ℕ). y ∷ t) (raised-last y n ws (omega arith))
+
+  pub raised-done : (i : ℕ) → length ws ≡ suc i → set (moved 1 ws i) i 0 ≡ drop 1 ws ++ (0 ∷ [])
+  unfolding moved
+  raised-done i e = last ws e
+    where
+      last : (ws : List ℕ) → length ws ≡ suc i → set (take i (drop 1 ws) ++ drop i ws) i 0 ≡ drop 1 ws ++ (0 ∷ [])
+      last [] e = absurd (omega arith)
+      last (x ∷ ws) e = raised-last x i ws (omega arith)
+
 -- ---- zeros
 
 abbrev zeroes : ℕ → List ℕ
 zeroes n = replicate n 0
-
-cleared-suc : (i : ℕ) (ws : List ℕ) → i < length ws → set (replicate i 0 ++ drop i ws) i 0 ≡ replicate (suc i) 0 ++ drop (suc i) ws
-cleared-suc i [] l = absurd (not-suc-le-zero l)
-cleared-suc zero (x ∷ ws) l = refl
-cleared-suc (suc i) (x ∷ ws) l = ap (λ (t : List ℕ). 0 ∷ t) (cleared-suc i ws (le-of-suc-le-suc l))
-
-pub cleared-more : (i : ℕ) (ws : List ℕ) → i < length ws → set (replicate i 0 ++ drop i ws) i 0 ≡ replicate (i + 1) 0 ++ drop (i + 1) ws
-cleared-more i ws l = rw add-one (cleared-suc i ws l)
 
 -- ---- tables
 
@@ -91,15 +108,6 @@ words-of : (rows : List ℕ) (n : ℕ) → length rows ≡ n → tableOf rows .w
 unfolding tableOf
 words-of rows n e = rw e
 
-pub clear-table : (rows : List ℕ) → length rows ≤ 1024 → ClearBehind (tableOf rows .words) (length rows)
-unfolding tableOf
-clear-table rows h =
-    record {
-      long = length-append rows (replicate (1024 - length rows) 0) ∙ rw (length-replicate {A = ℕ} (1024 - length rows) 0) (omega arith);
-      count = h;
-      clear = drop-append-seam rows (replicate (1024 - length rows) 0);
-    }
-
 module _ (xs : List ℕ) (n : ℕ) (c : ClearBehind xs n) where
   pub rows-long : length (take n xs) ≡ n
   rows-long = let l = c .long in let m = c .count in length-take-le n xs (omega arith)
@@ -118,14 +126,16 @@ module _ (xs : List ℕ) (n : ℕ) (c : ClearBehind xs n) where
 
   -- a word put in: what came back of the part that was shifted
   pub table-put : (at w : ℕ) → at ≤ n → n < 1024
-      → putMid at (n + 1 - at) xs (w ∷ take (length (midOf at (n + 1 - at) xs) - 1) (midOf at (n + 1 - at) xs)) ≡ tableOf (putIn at w (take n xs)) .words
+      → let lent = midOf at (n + 1 - at) xs in
+      putMid at (n + 1 - at) xs (w ∷ take (length lent - 1) lent) ≡ tableOf (putIn at w (take n xs)) .words
   unfolding putIn
   table-put at w h k =
       let l = c .long in
       let e : n + 1 - at - 1 ≡ n - at = omega arith in
       let z : 1024 - n ≡ suc (1024 - (n + 1)) = omega arith in
       let front : take at xs ≡ take at (take n xs) = sym (take-take at n xs h) in
-      let kept : take (n - at) (take (n + 1 - at) (drop at xs)) ≡ drop at (take n xs) = take-take (n - at) (n + 1 - at) (drop at xs) (omega arith) ∙ take-drop at n xs in
+      let kept : take (n - at) (take (n + 1 - at) (drop at xs)) ≡ drop at (take n xs)
+      = take-take (n - at) (n + 1 - at) (drop at xs) (omega arith) ∙ take-drop at n xs in
       let behind : drop (n + 1) xs ≡ replicate (1024 - (n + 1)) 0 = sym (drop-drop 1 n xs) ∙ rw (c .clear, z) in
       let long : length (take at (take n xs) ++ (w ∷ drop at (take n xs))) ≡ n + 1
       = length-append (take at (take n xs)) (w ∷ drop at (take n xs)) ∙ rw (length-take, length-drop, rows-long) (omega arith) in
@@ -152,22 +162,45 @@ module _ (xs : List ℕ) (n : ℕ) (c : ClearBehind xs n) where
         let there : from + gap ≡ to = omega arith in
         let back : take (n - to) (drop to rows) ≡ drop to rows = take-all (n - to) (drop to rows) (omega (arith, length-drop to rows)) in
         let front : length (take from rows) ≡ from = length-take-le from rows (rw rl (le-trans h k)) in
-        let kept : length (take from rows ++ drop to rows) ≡ n - gap = length-append (take from rows) (drop to rows) ∙ rw (front, length-drop, rl) (omega arith) in
+        let kept : length (take from rows ++ drop to rows) ≡ n - gap
+        = length-append (take from rows) (drop to rows) ∙ rw (front, length-drop, rl) (omega arith) in
         let rest = drop (n - to) (drop from rows) in
         let is : ys ≡ (take from rows ++ drop to rows) ++ (rest ++ replicate (1024 - n) 0)
-        = e ∙ rw (mid-len from n xs fits, lent, left, drop-drop, there, back, sym (take-take from n xs (omega arith)), post-is from n xs (omega arith), c .clear)
-        (simp append-assoc) in
+        = e ∙ rw (mid-len from n xs fits, lent, left, drop-drop, there, back, sym (take-take from n xs (omega arith)))
+        (rw (post-is from n xs (omega arith), c .clear) (simp append-assoc)) in
         let restl : length rest ≡ gap = rw (length-drop, length-drop, rl) (omega arith) in
         let long : length ys ≡ 1024 = rw (is, length-append, kept, length-append, restl, length-replicate) (omega arith) in
-        let behind : drop n ys ≡ replicate (1024 - n) 0 = rw is (rw (← append-assoc) (drop-at ((take from rows ++ drop to rows) ++ rest) (replicate (1024 - n) 0) n
-        (length-append (take from rows ++ drop to rows) rest ∙ rw (kept, restl) (omega arith)))) in
+        let all-rows : length ((take from rows ++ drop to rows) ++ rest) ≡ n
+        = length-append (take from rows ++ drop to rows) rest ∙ rw (kept, restl) (omega arith) in
+        let behind : drop n ys ≡ replicate (1024 - n) 0
+        = rw is (rw (← append-assoc) (drop-at ((take from rows ++ drop to rows) ++ rest) (replicate (1024 - n) 0) n all-rows)) in
         let width : n - (n - gap) ≡ gap = omega arith in
         let all = zeros-left n gap low m in
         let zeros : zeroes gap ++ zeroes (1024 - n) ≡ zeroes (1024 - (n - gap))
         = replicate-append-replicate {A = ℕ} gap (1024 - n) 0 ∙ ap zeroes all in
-        let first : take (n - gap) ys ≡ take from rows ++ drop to rows = rw is (take-at (take from rows ++ drop to rows) (rest ++ replicate (1024 - n) 0) (n - gap) kept) in
+        let first : take (n - gap) ys ≡ take from rows ++ drop to rows
+        = rw is (take-at (take from rows ++ drop to rows) (rest ++ replicate (1024 - n) 0) (n - gap) kept) in
         rw (mid-len (n - gap) n ys (rw long m), post-is (n - gap) n ys (sub-low n gap), behind, first, width, zeros)
         (sym (words-of (take from rows ++ drop to rows) (n - gap) kept))
+
+  -- one row taken out: what came back of the part that was closed up
+  pub table-without-one : (from to : ℕ) → to ≡ from + 1 → to ≤ n
+      → putMid from (n - from) xs (drop 1 (midOf from (n - from) xs) ++ (0 ∷ [])) ≡ tableOf (without from to (take n xs)) .words
+  unfolding without
+  table-without-one from to e h =
+      let rows = take n xs in
+      let l = c .long in
+      let m = c .count in
+      let rl = rows-long in
+      let lent : midOf from (n - from) xs ≡ drop from rows = take-drop from n xs in
+      let front : length (take from rows) ≡ from = length-take-le from rows (rw rl (omega arith)) in
+      let kept : length (take from rows ++ drop to rows) ≡ n - 1
+      = length-append (take from rows) (drop to rows) ∙ rw (front, length-drop, rl) (omega arith) in
+      let z : 1024 - (n - 1) ≡ suc (1024 - n) = omega arith in
+      let is : tableOf (take from rows ++ drop to rows) .words ≡ take from rows ++ (drop to rows ++ (0 ∷ replicate (1024 - n) 0))
+      = words-of (take from rows ++ drop to rows) (n - 1) kept ∙ rw (z, append-assoc) in
+      rw (lent, drop-drop, ← e, sym (take-take from n xs (omega arith)), post-is from n xs (omega arith), c .clear, is)
+      (simp append-assoc)
 
   -- what a row replaced keeps
   pub clear-set : (i w : ℕ) → i < n → ClearBehind (set xs i w) n
@@ -179,15 +212,30 @@ pub length-put : (at w : ℕ) (ws : List ℕ) → at ≤ length ws → length (p
 unfolding putIn
 length-put at w ws h = length-append (take at ws) (w ∷ drop at ws) ∙ rw (length-take-le at ws h, length-drop) (omega arith)
 
-pub length-without : (from to : ℕ) (ws : List ℕ) → from ≤ to → to ≤ length ws → length (without from to ws) ≡ length ws - (to - from)
+length-without : (from to : ℕ) (ws : List ℕ) → from ≤ to → to ≤ length ws → length (without from to ws) ≡ length ws - (to - from)
 unfolding without
-length-without from to ws h k = length-append (take from ws) (drop to ws) ∙ rw (length-take-le from ws (le-trans h k), length-drop) (omega arith)
+length-without from to ws h k =
+    length-append (take from ws) (drop to ws) ∙ rw (length-take-le from ws (le-trans h k), length-drop) (omega arith)
 
 pub taken-out : (xs : List ℕ) (n : ℕ) → ClearBehind xs n → (from to : ℕ) → from ≤ to → to ≤ n → (zs : List ℕ)
     → zs ≡ tableOf (without from to (take n xs)) .words → Changed (without from to (take n xs)) zs (n - (to - from))
 taken-out xs n c from to h k zs z =
     let l = rows-long xs n c in
     record { is = z; count = sym (length-without from to (take n xs) h (rw l k) ∙ ap (λ (i : ℕ). i - (to - from)) l) }
+
+-- a single row taken out
+pub one-out : (xs : List ℕ) (n : ℕ) → ClearBehind xs n → (from to : ℕ) → to ≡ from + 1 → to ≤ n → (zs : List ℕ)
+    → zs ≡ tableOf (without from to (take n xs)) .words → Changed (without from to (take n xs)) zs (n - 1)
+one-out xs n c from to e k zs z =
+    let g : to - from ≡ 1 = omega arith in
+    rw g at (taken-out xs n c from to (omega arith) k zs z)
+
+-- no row taken out
+pub none-out : (xs : List ℕ) (n : ℕ) → ClearBehind xs n → (from to : ℕ) → from ≡ to → Changed (without from to (take n xs)) xs n
+unfolding without
+none-out xs n c from to e =
+    let all : take from (take n xs) ++ drop to (take n xs) ≡ take n xs = rw e (take-append-drop to (take n xs)) in
+    record { is = rw all (table-is xs n c); count = rw all (sym (rows-long xs n c)) }
 
 -- ---- the row before a place, cut
 

@@ -1,4 +1,5 @@
--- Question 5 row by row: a table is right exactly where each row fits and zeros follow; and what a right table gives the functions of this crate.
+-- Question 5 row by row: a table is right exactly where each row fits and zeros follow; and what a right table gives the functions of this
+-- crate.
 use Prim.Native.Nat.{ℕ, zero, suc, _+_, _-_, _/_, _≤_, _<_, zero-le, suc-le-suc}
 use mathlib.Core.Path.{_≡_, refl, sym, ap, _∙_}
 use mathlib.Core.Bool.{Bool, true, false, _&&_, false≢true}
@@ -16,10 +17,12 @@ use Rattle.rules.specs.Rows.{periodPoint, periodElement, periodFirst, periodEnd
 use Rattle.rules.specs.World.{Opening, Table, openingOf, rowsOf, kindOf}
 use Rattle.rules.specs.WellFormed.{periodRight, apart, valueRight, earlier, tableRight, linksRight, holdersRight, statesRight}
 use Rattle.rules.proofs.Tests.{tests, cases, both}
-use Rattle.rules.proofs.Parts.{table-ordered, links-run}
-use Rattle.tables.specs.Order.{Rising, nil, row, OrderedRows, LinkRows, ValueRows, ClearBehind}
-use Rattle.tables.specs.Tests.{isZero, fitsAt, kindAllows, daysRight}
-use Rattle.tables.proofs.Order.{rising-lower, run-rising}
+use Rattle.rules.specs.Whole.{Whole}
+use Rattle.rules.specs.Lent.{Lists, worldIn, openingIn}
+use Rattle.rules.proofs.Parts.{lengths, formed, table-ordered, links-run}
+use Rattle.tables.specs.Order.{Rising, nil, row, LinkRows, ValueRows, ClearBehind, TableRows}
+use Rattle.tables.specs.Tests.{isZero, rowFitsAt, kindAllows, daysRight}
+use Rattle.tables.proofs.Order.{rising-lower}
 
 -- ---- by place
 
@@ -56,12 +59,12 @@ module _ (order : ℕ → ℕ → Bool) (right : ℕ → Bool) (xs : List ℕ) (
   long : length (take n xs) ≡ n
   long = length-take-le n xs fits
 
-  fit-right : (i : ℕ) → fitsAt order right xs i ≡ true → right (getD xs i 0) ≡ true
-  unfolding fitsAt
+  fit-right : (i : ℕ) → rowFitsAt order right xs i ≡ true → right (getD xs i 0) ≡ true
+  unfolding rowFitsAt
   fit-right i h = both (right (getD xs i 0)) _ h .0
 
-  fit-order : (i : ℕ) → fitsAt order right xs (suc i) ≡ true → order (getD xs i 0) (getD xs (suc i) 0) ≡ true
-  unfolding fitsAt
+  fit-order : (i : ℕ) → rowFitsAt order right xs (suc i) ≡ true → order (getD xs i 0) (getD xs (suc i) 0) ≡ true
+  unfolding rowFitsAt
   fit-order i h =
       let k = both (right (getD xs (suc i) 0)) _ h .1 in
       let e : suc i - 1 ≡ i = omega arith in
@@ -69,17 +72,19 @@ module _ (order : ℕ → ℕ → Bool) (right : ℕ → Bool) (xs : List ℕ) (
       rw (z, e) at k
 
   -- each row fits: what is left is whether zeros follow
-  pub table-rest : ((i : ℕ) → i < n → fitsAt order right xs i ≡ true) → allIn isZero (drop n xs) ≡ tableRight order right (record { used = n; words = xs })
+  pub table-rest : ((i : ℕ) → i < n → rowFitsAt order right xs i ≡ true)
+      → allIn isZero (drop n xs) ≡ tableRight order right (record { used = n; words = xs })
   unfolding tableRight rowsOf isZero
   table-rest h =
       let l = long in
       let c : chained order (take n xs) ≡ true = chained-all order (take n xs) (λ i k.
       rw (getD-take n xs i 0 (omega arith), getD-take n xs (suc i) 0 (omega arith)) (fit-order i (h (suc i) (omega arith)))) in
-      let a : allIn right (take n xs) ≡ true = in-all right (take n xs) (λ i k. rw (getD-take n xs i 0 (omega arith)) (fit-right i (h i (omega arith)))) in
+      let a : allIn right (take n xs) ≡ true = in-all right (take n xs) (λ i k.
+      rw (getD-take n xs i 0 (omega arith)) (fit-right i (h i (omega arith)))) in
       rw (c, a)
 
-  fit-at : chained order (take n xs) ≡ true → allIn right (take n xs) ≡ true → (i : ℕ) → i < n → fitsAt order right xs i ≡ true
-  unfolding fitsAt
+  fit-at : chained order (take n xs) ≡ true → allIn right (take n xs) ≡ true → (i : ℕ) → i < n → rowFitsAt order right xs i ≡ true
+  unfolding rowFitsAt
   fit-at c a zero h =
       let l = long in
       let r = in-at right (take n xs) a 0 (omega arith) in
@@ -96,7 +101,7 @@ module _ (order : ℕ → ℕ → Bool) (right : ℕ → Bool) (xs : List ℕ) (
       rw (r′, z, e, o′)
 
   -- one does not: the table is not right
-  pub table-not : (i : ℕ) → i < n → fitsAt order right xs i ≡ false → false ≡ tableRight order right (record { used = n; words = xs })
+  pub table-not : (i : ℕ) → i < n → rowFitsAt order right xs i ≡ false → false ≡ tableRight order right (record { used = n; words = xs })
   unfolding tableRight rowsOf
   table-not i h f = cases (chained order (take n xs))
       (λ c. cases (allIn right (take n xs))
@@ -113,7 +118,8 @@ regroup false b c d = refl
 
 pub period-parts : (o : Opening) (r : ℕ) → periodRight o r
     ≡ (ltb (periodPoint r) (o .points) && (ltb (periodElement r) (o .elements)
-    && (daysRight (periodFirst r) (periodEnd r) (periodQuantity r) && kindAllows (kindOf o (periodElement r)) (periodFirst r) (periodEnd r) (periodQuantity r))))
+    && (daysRight (periodFirst r) (periodEnd r) (periodQuantity r)
+    && kindAllows (kindOf o (periodElement r)) (periodFirst r) (periodEnd r) (periodQuantity r))))
 unfolding periodRight daysRight kindAllows
 period-parts o r = ap (λ (t : Bool). ltb (periodPoint r) (o .points) && (ltb (periodElement r) (o .elements) && t))
     (regroup (ltb (periodFirst r) (periodEnd r)) (leb (periodEnd r) 36525) (within 1 999 (periodQuantity r)) _)
@@ -141,10 +147,12 @@ zeros-are [] h = refl
 zeros-are (x ∷ xs) h = let k = both (eqb x 0) _ h in let e = zeros-are xs (k .1) in rw (eqb-true x 0 (k .0)) (ap (λ (l : List ℕ). 0 ∷ l) e)
 
 module _ (xs : List ℕ) (n : ℕ) (l : length xs ≡ 1024) (k : n ≤ 1024) where
-  pub right-clear : (order : ℕ → ℕ → Bool) (right : ℕ → Bool) → tableRight order right (record { used = n; words = xs }) ≡ true → ClearBehind xs n
+  right-clear : (order : ℕ → ℕ → Bool) (right : ℕ → Bool) → tableRight order right (record { used = n; words = xs }) ≡ true
+      → ClearBehind xs n
   unfolding tableRight isZero
   right-clear order right h =
-      let z = both (allIn right (rowsOf (record { used = n; words = xs }))) _ (both (chained order (rowsOf (record { used = n; words = xs }))) _ h .1) .1 in
+      let rows = rowsOf (record { used = n; words = xs }) in
+      let z = both (allIn right rows) _ (both (chained order rows) _ h .1) .1 in
       record { long = l; count = k; clear = zeros-are (drop n xs) z ∙ rw (length-drop, l) }
 
   pub links-clear : (o : Opening) → linksRight o (record { used = n; words = xs }) ≡ true → ClearBehind xs n
@@ -154,23 +162,25 @@ module _ (xs : List ℕ) (n : ℕ) (l : length xs ≡ 1024) (k : n ≤ 1024) whe
   pub links-rows : (o : Opening) → linksRight o (record { used = n; words = xs }) ≡ true → LinkRows xs n
   links-rows o h = record { fits = rw l k; run = unfold rowsOf in links-run o (record { used = n; words = xs }) h }
 
-  pub links-ordered : (o : Opening) → linksRight o (record { used = n; words = xs }) ≡ true → OrderedRows xs n
-  links-ordered o h = let r = links-rows o h in record { fits = r .fits; order = run-rising (r .run) }
-
 module _ (size : ℕ) where
   earlier-rising : (r : ℕ) (rs : List ℕ) → chained (earlier size) (r ∷ rs) ≡ true → Rising (λ w. w / size) (r / size) (r ∷ rs)
   unfolding chained earlier
   earlier-rising r [] c = row (le-refl _) nil
-  earlier-rising r (s ∷ rs) c = let k = both (earlier size r s) _ c in row (le-refl _) (rising-lower (λ w. w / size) (ltb-true _ _ (k .0)) (earlier-rising s rs (k .1)))
+  earlier-rising r (s ∷ rs) c =
+      let k = both (earlier size r s) _ c in
+      row (le-refl _) (rising-lower (λ w. w / size) (ltb-true _ _ (k .0)) (earlier-rising s rs (k .1)))
 
-  pub chained-rising : (rs : List ℕ) → chained (earlier size) rs ≡ true → Rising (λ w. w / size) 0 rs
+  chained-rising : (rs : List ℕ) → chained (earlier size) rs ≡ true → Rising (λ w. w / size) 0 rs
   chained-rising [] c = nil
   chained-rising (r ∷ rs) c = rising-lower (λ w. w / size) {j = 0} {k = r / size} zero-le (earlier-rising r rs c)
 
 module _ (xs : List ℕ) (n : ℕ) (l : length xs ≡ 1024) (k : n ≤ 1024) (o : Opening) where
-  value-rows : (size : ℕ) (right : ℕ → Bool) → tableRight (earlier size) right (record { used = n; words = xs }) ≡ true → ValueRows size xs n
+  value-rows : (size : ℕ) (right : ℕ → Bool) → tableRight (earlier size) right (record { used = n; words = xs }) ≡ true
+      → ValueRows size xs n
   value-rows size right h =
-      record { fits = rw l k; order = chained-rising size (take n xs) (unfold rowsOf in table-ordered (earlier size) right (record { used = n; words = xs }) h) }
+      let ordered : chained (earlier size) (take n xs) ≡ true
+      = unfold rowsOf in table-ordered (earlier size) right (record { used = n; words = xs }) h in
+      record { fits = rw l k; order = chained-rising size (take n xs) ordered }
 
   pub holders-rows : holdersRight o (record { used = n; words = xs }) ≡ true → ValueRows 32 xs n
   unfolding holdersRight
@@ -187,6 +197,21 @@ module _ (xs : List ℕ) (n : ℕ) (l : length xs ≡ 1024) (k : n ≤ 1024) (o 
   pub states-clear : statesRight o (record { used = n; words = xs }) ≡ true → ClearBehind xs n
   unfolding statesRight
   states-clear h = right-clear xs n l k (earlier 8) (valueRight 8 1 4 o) h
+
+-- ---- what a whole book gives: its tables can be searched and written
+
+pub whole-rows : (b : Book) (o : Lists) → Whole (worldIn b o) → TableRows b (o .links) (o .holders) (o .states)
+whole-rows b o c =
+    let n = lengths (worldIn b o) c in
+    let r = formed (worldIn b o) c .tables in
+    record {
+      links = links-rows (o .links) (b .periods) (n .links .1) (n .links .0) (openingIn b o) (r .links);
+      holders = holders-rows (o .holders) (b .holders) (n .holders .1) (n .holders .0) (openingIn b o) (r .holders);
+      states = states-rows (o .states) (b .states) (n .states .1) (n .states .0) (openingIn b o) (r .states);
+      links-clear = links-clear (o .links) (b .periods) (n .links .1) (n .links .0) (openingIn b o) (r .links);
+      holders-clear = holders-clear (o .holders) (b .holders) (n .holders .1) (n .holders .0) (openingIn b o) (r .holders);
+      states-clear = states-clear (o .states) (b .states) (n .states .1) (n .states .0) (openingIn b o) (r .states);
+    }
 
 -- one more place passed
 pub one-more : (f : ℕ → Bool) (i : ℕ) → ((k : ℕ) → k < i → f k ≡ true) → f i ≡ true → (k : ℕ) → k < i + 1 → f k ≡ true

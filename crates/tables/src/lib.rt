@@ -1,57 +1,82 @@
 // Rows of packed words in lent tables: fields, search, insertion, removal, what the rows say of a day, and question 5 of a table.
 // A table is a slice of 1,024 words, of which the first `used` are rows; the rows are strictly increasing.
 use rules::Book;
+use rules::CLOSED;
+use rules::DAY_ROOM;
+use rules::ELEMENT_ROOM;
+use rules::ELEMENT_SIZE;
+use rules::ELEMENT_UNIT;
+use rules::END_OF_DAYS;
+use rules::END_UNIT;
+use rules::FEE;
+use rules::FIRST_UNIT;
+use rules::HOLDER_SIZE;
+use rules::MOST_QUANTITY;
+use rules::NEW;
+use rules::POINT_UNIT;
+use rules::QUANTITY_ROOM;
+use rules::STATE_SIZE;
+use rules::TARIFF;
 ghost use mathlib.Core.Path.{_≡_};
 ghost use mathlib.Core.Bool.{_&&_, cond};
-ghost use mathlib.Core.List.{[], _∷_};
+ghost use mathlib.Core.List.{[], _∷_, _++_};
 ghost use Prim.Native.Nat.{_+_, _-_, _*_, _/_, _≤_, _<_};
 ghost use lib.Dec.{ltb, eqb};
 ghost use lib.ListN.{length, getD, take, drop, replicate};
 ghost use Rattle.rules.specs.Rows.{packPeriod, periodPoint, periodElement, periodFirst, periodEnd, periodQuantity, ofPair, covers, quantityOn, startsOn, nextStart, pairRows, insertRow, stopRows, splitRows, recordedOn, recordRow, packValue, valuePoint, valueFirst, valueOf};
+ghost use Rattle.rules.specs.Sizes.{mostPoints, places, elementSize, elementRoom, dayRoom, quantityRoom};
 ghost use Rattle.rules.specs.Basics.{latest, allIn};
+ghost use Rattle.rules.specs.Lines.{fee};
 ghost use Rattle.rules.specs.World.{tableOf, openingOf};
 ghost use Rattle.rules.specs.WellFormed.{periodRight, apart, valueRight, earlier, tableRight, linksRight, holdersRight, statesRight};
-ghost use Rattle.tables.specs.Order.{OrderedRows, LinkRows, ValueRows, ClearBehind, PairFits, DayFits, PointFits};
-ghost use Rattle.tables.specs.Tests.{isZero, fitsAt, kindAllows, daysRight};
-ghost use Rattle.tables.specs.Search.{Place, Covering, coveringRow, given, endOn, nextRecorded, Changed, rowFrom, cutRow, cutBefore, putIn, without, moved};
+ghost use Rattle.tables.specs.Order.{pointRoom, OrderedRows, LinkRows, ValueRows, ClearBehind, PairFits, DayFits, PointFits};
+ghost use Rattle.tables.specs.Tests.{isZero, rowFitsAt, kindAllows, daysRight};
+ghost use Rattle.tables.specs.Search.{RowPlace, Covering, coveringRow, isGiven, endOn, nextRecorded, Changed, rowFrom, cutRow, cutBefore, putIn, without, moved};
+ghost use Rattle.tables.specs.RowRange.{pointRows};
+ghost use Rattle.rules.specs.Lent.{left, was};
+
+// The largest word of 64 bits, which no row reaches.
+const LARGEST_WORD: u64 = 18446744073709551615;
 
 // ---- fields, in constant time
 
 pub fn point_of(word: u64) -> u64
     ensures { λ r. ⌜ r ≡ periodPoint word ⌝ }
 {
-    word / 281474976710656
+    word / POINT_UNIT
 }
 
 pub fn element_of(word: u64) -> u64
     ensures { λ r. ⌜ r ≡ periodElement word ⌝ }
 {
-    word / 4398046511104 % 64
+    word / ELEMENT_UNIT % ELEMENT_ROOM
 }
 
 pub fn first_of(word: u64) -> u64
     ensures { λ r. ⌜ r ≡ periodFirst word ⌝ }
 {
-    word / 67108864 % 65536
+    word / FIRST_UNIT % DAY_ROOM
 }
 
 pub fn end_of(word: u64) -> u64
     ensures { λ r. ⌜ r ≡ periodEnd word ⌝ }
 {
-    word / 1024 % 65536
+    word / END_UNIT % DAY_ROOM
 }
 
 pub fn quantity_of(word: u64) -> u64
     ensures { λ r. ⌜ r ≡ periodQuantity word ⌝ }
 {
-    word % 1024
+    word % QUANTITY_ROOM
 }
 
 pub fn pack_period(point: u64, element: u64, first: u64, end: u64, quantity: u64) -> u64
-    requires { ⌜ (point < 65536) × (element < 64) × (first < 65536) × (end < 65536) × (quantity < 1024) ⌝ }
+    requires { ⌜ (point < pointRoom) × (element < elementRoom)
+        × (first < dayRoom) × (end < dayRoom) × (quantity < quantityRoom) ⌝ }
     ensures { λ r. ⌜ r ≡ packPeriod point element first end quantity ⌝ }
 {
-    (((point * 64 + element) * 65536 + first) * 65536 + end) * 1024 + quantity
+    (((point * ELEMENT_ROOM + element) * DAY_ROOM + first) * DAY_ROOM + end) * QUANTITY_ROOM
+        + quantity
 }
 
 // The first word behind those of a point and element.
@@ -59,21 +84,21 @@ pub fn pair_bound(point: u64, element: u64) -> u64
     requires { ⌜ PairFits point element ⌝ }
     ensures { λ r. ⌜ r ≡ packPeriod point (element + 1) 0 0 0 ⌝ }
 {
-    (point * 64 + element + 1) * 4398046511104
+    (point * ELEMENT_ROOM + element + 1) * ELEMENT_UNIT
 }
 
 pub fn value_point_of(size: u64, word: u64) -> u64
     requires { ⌜ 0 < size ⌝ }
     ensures { λ r. ⌜ r ≡ valuePoint size word ⌝ }
 {
-    word / size / 65536
+    word / size / DAY_ROOM
 }
 
 pub fn value_first_of(size: u64, word: u64) -> u64
     requires { ⌜ 0 < size ⌝ }
     ensures { λ r. ⌜ r ≡ valueFirst size word ⌝ }
 {
-    word / size % 65536
+    word / size % DAY_ROOM
 }
 
 pub fn value_of(size: u64, word: u64) -> u64
@@ -85,10 +110,10 @@ pub fn value_of(size: u64, word: u64) -> u64
 
 pub fn pack_value(size: u64, point: u64, first: u64, value: u64) -> u64
     requires { ⌜ PointFits size point ⌝ }
-    requires { ⌜ (first < 65536) × (value < size) ⌝ }
+    requires { ⌜ (first < dayRoom) × (value < size) ⌝ }
     ensures { λ r. ⌜ r ≡ packValue size point first value ⌝ }
 {
-    (point * 65536 + first) * size + value
+    (point * DAY_ROOM + first) * size + value
 }
 
 // Is the row one of the point and element.
@@ -118,7 +143,7 @@ pub fn covers_day(word: u64, point: u64, element: u64, day: u64) -> bool
 // How many rows are below the word. Logarithmic in the rows.
 pub fn place(table: &[u64], used: usize, word: u64) -> usize
     requires { ⌜ OrderedRows (now table) used ⌝ }
-    ensures { λ r. ⌜ Place (now (table .entry)) used word r ⌝ }
+    ensures { λ r. ⌜ RowPlace (was table) used word r ⌝ }
 {
     let mut low = 0;
     let mut high = used;
@@ -136,13 +161,13 @@ pub fn place(table: &[u64], used: usize, word: u64) -> usize
 // The first row that is not below the word, or a word above every row where there is none. Logarithmic in the rows.
 pub fn row_from(table: &[u64], used: usize, word: u64) -> u64
     requires { ⌜ OrderedRows (now table) used ⌝ }
-    ensures { λ r. ⌜ r ≡ rowFrom word (take used (now (table .entry))) ⌝ }
+    ensures { λ r. ⌜ r ≡ rowFrom word (take used (was table)) ⌝ }
 {
     let at = place(table, used, word);
     if at < used {
         return table[at];
     }
-    18446744073709551615
+    LARGEST_WORD
 }
 
 // The place of the row that covers the day, or the first place behind the rows where none does. Logarithmic in the rows:
@@ -151,7 +176,7 @@ pub fn covering_place(table: &[u64], used: usize, point: u64, element: u64, day:
     requires { ⌜ LinkRows (now table) used ⌝ }
     requires { ⌜ PairFits point element ⌝ }
     requires { ⌜ DayFits day ⌝ }
-    ensures { λ r. ⌜ Covering point element day (now (table .entry)) used r ⌝ }
+    ensures { λ r. ⌜ Covering point element day (was table) used r ⌝ }
 {
     let at = place(table, used, pack_period(point, element, day + 1, 0, 0));
     if at == 0 {
@@ -166,27 +191,26 @@ pub fn covering_place(table: &[u64], used: usize, point: u64, element: u64, day:
 
 // ---- insertion and removal
 
-// The word goes to the front, every word moves down by one, the last falls off. Linear in the words lent.
+// The word goes to the front, every word moves down by one, the last falls off. From the back, so that the compiler makes one move of
+// it. Linear in the words lent.
 pub fn shift_down(tail: &mut [u64], word: u64)
     requires { ⌜ 0 < length (now tail) ⌝ }
-    ensures { λ _. ⌜ now (tail .exit) ≡ word ∷ take (length (now (tail .entry)) - 1) (now (tail .entry)) ⌝ }
+    ensures { λ _. ⌜ left tail ≡ word ∷ take (length (was tail) - 1) (was tail) ⌝ }
 {
-    let mut carried = word;
-    let mut i = 0;
-    while i < tail.len() {
-        let next = tail[i];
-        tail[i] = carried;
-        carried = next;
-        i += 1;
+    let mut i = tail.len() - 1;
+    while 0 < i {
+        tail[i] = tail[i - 1];
+        i -= 1;
     }
+    tail[0] = word;
 }
 
 // The word goes in at a place; the rows from there on, and the first free place behind them, are lent on to be shifted.
 // Linear in the rows behind the place.
 pub fn insert_at(table: &mut [u64], used: usize, at: usize, word: u64)
     requires { ⌜ ClearBehind (now table) used ⌝ }
-    requires { ⌜ (at ≤ used) × (used < 1024) ⌝ }
-    ensures { λ _. ⌜ now (table .exit) ≡ tableOf (putIn at word (take used (now (table .entry)))) .words ⌝ }
+    requires { ⌜ (at ≤ used) × (used < places) ⌝ }
+    ensures { λ _. ⌜ left table ≡ tableOf (putIn at word (take used (was table))) .words ⌝ }
 {
     let end = used + 1;
     shift_down(&mut table[at..end], word);
@@ -196,8 +220,8 @@ pub fn insert_at(table: &mut [u64], used: usize, at: usize, word: u64)
 pub fn insert(table: &mut [u64], used: usize, word: u64)
     requires { ⌜ ClearBehind (now table) used ⌝ }
     requires { ⌜ OrderedRows (now table) used ⌝ }
-    requires { ⌜ used < 1024 ⌝ }
-    ensures { λ _. ⌜ now (table .exit) ≡ tableOf (insertRow word (take used (now (table .entry)))) .words ⌝ }
+    requires { ⌜ used < places ⌝ }
+    ensures { λ _. ⌜ left table ≡ tableOf (insertRow word (take used (was table))) .words ⌝ }
 {
     let at = place(table, used, word);
     insert_at(table, used, at, word);
@@ -206,7 +230,7 @@ pub fn insert(table: &mut [u64], used: usize, word: u64)
 // The words of one part move up to the front of it, those of its first `gap` places fall off. Linear in the words lent.
 fn move_up(tail: &mut [u64], gap: usize)
     requires { ⌜ gap ≤ length (now tail) ⌝ }
-    ensures { λ _. ⌜ now (tail .exit) ≡ moved gap (now (tail .entry)) (length (now (tail .entry)) - gap) ⌝ }
+    ensures { λ _. ⌜ left tail ≡ moved gap (was tail) (length (was tail) - gap) ⌝ }
 {
     let mut i = 0;
     let mut j = gap;
@@ -217,9 +241,23 @@ fn move_up(tail: &mut [u64], gap: usize)
     }
 }
 
+// The first word falls off, every other moves up by one, a 0 goes to the end. Linear in the words lent.
+fn shift_up(tail: &mut [u64])
+    requires { ⌜ 0 < length (now tail) ⌝ }
+    ensures { λ _. ⌜ left tail ≡ drop 1 (was tail) ++ (0 ∷ []) ⌝ }
+{
+    let last = tail.len() - 1;
+    let mut i = 0;
+    while i < last {
+        tail[i] = tail[i + 1];
+        i += 1;
+    }
+    tail[last] = 0;
+}
+
 // Every word is 0. Linear in the words lent.
-fn clear(part: &mut [u64])
-    ensures { λ _. ⌜ now (part .exit) ≡ replicate (length (now (part .entry))) 0 ⌝ }
+pub fn clear(part: &mut [u64])
+    ensures { λ _. ⌜ left part ≡ replicate (length (was part)) 0 ⌝ }
 {
     let mut i = 0;
     while i < part.len() {
@@ -229,13 +267,21 @@ fn clear(part: &mut [u64])
 }
 
 // The rows from one place up to another go: those behind them are closed up, and the freed places become 0. How many rows there
-// are then. Linear in the rows from the first of the two places on.
+// are then. Linear in the rows from the first of the two places on; nothing is written where no row goes, and the place of a single row
+// is closed up in one move.
 pub fn remove(table: &mut [u64], used: usize, from: usize, to: usize) -> usize
     requires { ⌜ ClearBehind (now table) used ⌝ }
     requires { ⌜ (from ≤ to) × (to ≤ used) ⌝ }
-    ensures { λ r. ⌜ Changed (without from to (take used (now (table .entry)))) (now (table .exit)) r ⌝ }
+    ensures { λ r. ⌜ Changed (without from to (take used (was table))) (left table) r ⌝ }
 {
+    if from == to {
+        return used;
+    }
     let gap = to - from;
+    if gap == 1 {
+        shift_up(&mut table[from..used]);
+        return used - 1;
+    }
     move_up(&mut table[from..used], gap);
     let end = used - gap;
     clear(&mut table[end..used]);
@@ -264,7 +310,7 @@ fn cut_before(table: &mut [u64], at: usize, point: u64, element: u64, day: u64)
     requires { ⌜ at ≤ length (now table) ⌝ }
     requires { ⌜ PairFits point element ⌝ }
     requires { ⌜ DayFits day ⌝ }
-    ensures { λ _. ⌜ now (table .exit) ≡ cutBefore point element day at (now (table .entry)) ⌝ }
+    ensures { λ _. ⌜ left table ≡ cutBefore point element day at (was table) ⌝ }
 {
     if 0 < at {
         let last = at - 1;
@@ -280,7 +326,7 @@ pub fn stop(table: &mut [u64], used: usize, point: u64, element: u64, day: u64) 
     requires { ⌜ LinkRows (now table) used ⌝ }
     requires { ⌜ PairFits point element ⌝ }
     requires { ⌜ DayFits day ⌝ }
-    ensures { λ r. ⌜ Changed (stopRows point element day (take used (now (table .entry)))) (now (table .exit)) r ⌝ }
+    ensures { λ r. ⌜ Changed (stopRows point element day (take used (was table))) (left table) r ⌝ }
 {
     let from = place(table, used, pack_period(point, element, day, 0, 0));
     let to = place(table, used, pair_bound(point, element));
@@ -302,9 +348,9 @@ pub fn split(
     requires { ⌜ LinkRows (now table) used ⌝ }
     requires { ⌜ PairFits point element ⌝ }
     requires { ⌜ DayFits day ⌝ }
-    requires { ⌜ quantity < 1024 ⌝ }
-    requires { ⌜ length (splitRows point element day quantity (take used (now table))) ≤ 1024 ⌝ }
-    ensures { λ r. ⌜ Changed (splitRows point element day quantity (take used (now (table .entry)))) (now (table .exit)) r ⌝ }
+    requires { ⌜ quantity < quantityRoom ⌝ }
+    requires { ⌜ length (splitRows point element day quantity (take used (now table))) ≤ places ⌝ }
+    ensures { λ r. ⌜ Changed (splitRows point element day quantity (take used (was table))) (left table) r ⌝ }
 {
     let at = covering_place(table, used, point, element, day);
     if at == used {
@@ -324,7 +370,7 @@ pub fn split(
 // Is there a row at the place, of the point and day that the key stands for. Constant time.
 fn same_day(table: &[u64], used: usize, at: usize, size: u64, key: u64) -> bool
     requires { ⌜ (0 < size) × (used ≤ length (now table)) ⌝ }
-    ensures { λ r. ⌜ r ≡ (ltb at used && eqb (getD (now (table .entry)) at 0 / size) key) ⌝ }
+    ensures { λ r. ⌜ r ≡ (ltb at used && eqb (getD (was table) at 0 / size) key) ⌝ }
 {
     if at < used {
         return table[at] / size == key;
@@ -338,8 +384,8 @@ pub fn record_value(table: &mut [u64], used: usize, size: u64, word: u64) -> usi
     requires { ⌜ ClearBehind (now table) used ⌝ }
     requires { ⌜ ValueRows size (now table) used ⌝ }
     requires { ⌜ 0 < size ⌝ }
-    requires { ⌜ length (recordRow size word (take used (now table))) ≤ 1024 ⌝ }
-    ensures { λ r. ⌜ Changed (recordRow size word (take used (now (table .entry)))) (now (table .exit)) r ⌝ }
+    requires { ⌜ length (recordRow size word (take used (now table))) ≤ places ⌝ }
+    ensures { λ r. ⌜ Changed (recordRow size word (take used (was table))) (left table) r ⌝ }
 {
     let key = word / size;
     let at = place(table, used, key * size);
@@ -358,7 +404,7 @@ fn covering_row(table: &[u64], used: usize, point: u64, element: u64, day: u64) 
     requires { ⌜ LinkRows (now table) used ⌝ }
     requires { ⌜ PairFits point element ⌝ }
     requires { ⌜ DayFits day ⌝ }
-    ensures { λ r. ⌜ r ≡ coveringRow point element day (take used (now (table .entry))) ⌝ }
+    ensures { λ r. ⌜ r ≡ coveringRow point element day (take used (was table)) ⌝ }
 {
     let at = covering_place(table, used, point, element, day);
     if at < used {
@@ -372,7 +418,7 @@ pub fn quantity_on(table: &[u64], used: usize, point: u64, element: u64, day: u6
     requires { ⌜ LinkRows (now table) used ⌝ }
     requires { ⌜ PairFits point element ⌝ }
     requires { ⌜ DayFits day ⌝ }
-    ensures { λ r. ⌜ r ≡ quantityOn (take used (now (table .entry))) point element day ⌝ }
+    ensures { λ r. ⌜ r ≡ quantityOn (take used (was table)) point element day ⌝ }
 {
     quantity_of(covering_row(table, used, point, element, day))
 }
@@ -382,7 +428,7 @@ pub fn period_end(table: &[u64], used: usize, point: u64, element: u64, day: u64
     requires { ⌜ LinkRows (now table) used ⌝ }
     requires { ⌜ PairFits point element ⌝ }
     requires { ⌜ DayFits day ⌝ }
-    ensures { λ r. ⌜ r ≡ endOn (take used (now (table .entry))) point element day ⌝ }
+    ensures { λ r. ⌜ r ≡ endOn (take used (was table)) point element day ⌝ }
 {
     end_of(covering_row(table, used, point, element, day))
 }
@@ -392,7 +438,7 @@ pub fn value_on(table: &[u64], used: usize, size: u64, point: u64, day: u64) -> 
     requires { ⌜ ValueRows size (now table) used ⌝ }
     requires { ⌜ PointFits size point ⌝ }
     requires { ⌜ DayFits day ⌝ }
-    ensures { λ r. ⌜ r ≡ latest (recordedOn size (take used (now (table .entry))) point) day ⌝ }
+    ensures { λ r. ⌜ r ≡ latest (recordedOn size (take used (was table)) point) day ⌝ }
 {
     let at = place(table, used, pack_value(size, point, day + 1, 0));
     if at == 0 {
@@ -411,7 +457,7 @@ pub fn recorded(table: &[u64], used: usize, size: u64, point: u64, day: u64) -> 
     requires { ⌜ ValueRows size (now table) used ⌝ }
     requires { ⌜ PointFits size point ⌝ }
     requires { ⌜ DayFits day ⌝ }
-    ensures { λ r. ⌜ r ≡ given (recordedOn size (take used (now (table .entry))) point day) ⌝ }
+    ensures { λ r. ⌜ r ≡ isGiven (recordedOn size (take used (was table)) point day) ⌝ }
 {
     let word = row_from(table, used, pack_value(size, point, day, 0));
     if value_point_of(size, word) == point {
@@ -425,17 +471,17 @@ pub fn next_record(table: &[u64], used: usize, size: u64, point: u64, day: u64) 
     requires { ⌜ ValueRows size (now table) used ⌝ }
     requires { ⌜ PointFits size point ⌝ }
     requires { ⌜ DayFits day ⌝ }
-    ensures { λ r. ⌜ r ≡ nextRecorded size (take used (now (table .entry))) point day ⌝ }
+    ensures { λ r. ⌜ r ≡ nextRecorded size (take used (was table)) point day ⌝ }
 {
     let word = row_from(table, used, pack_value(size, point, day + 1, 0));
     if value_point_of(size, word) == point {
         let first = value_first_of(size, word);
-        if first < 36525 {
+        if first < END_OF_DAYS {
             return first;
         }
-        return 36525;
+        return END_OF_DAYS;
     }
-    36525
+    END_OF_DAYS
 }
 
 // The first day after the day on which a period of the point and element starts, or the end of days. A period is a dated value of
@@ -444,18 +490,18 @@ pub fn next_start(table: &[u64], used: usize, point: u64, element: u64, day: u64
     requires { ⌜ LinkRows (now table) used ⌝ }
     requires { ⌜ PairFits point element ⌝ }
     requires { ⌜ DayFits day ⌝ }
-    ensures { λ r. ⌜ r ≡ nextStart (take used (now (table .entry))) point element day ⌝ }
+    ensures { λ r. ⌜ r ≡ nextStart (take used (was table)) point element day ⌝ }
 {
-    next_record(table, used, 67108864, point * 64 + element, day)
+    next_record(table, used, FIRST_UNIT, point * ELEMENT_ROOM + element, day)
 }
 
 // The day up to which a link runs: a fee covers its own day, another element runs up to its next period. Cost: logarithmic in the rows.
 pub fn link_end(kind: u64, table: &[u64], used: usize, point: u64, element: u64, day: u64) -> u64
     requires { ⌜ LinkRows (now table) used ⌝ }
     requires { ⌜ PairFits point element × DayFits day ⌝ }
-    ensures { λ r. ⌜ r ≡ cond (eqb kind 2) (day + 1) (nextStart (take used (now (table .entry))) point element day) ⌝ }
+    ensures { λ r. ⌜ r ≡ cond (eqb kind fee) (day + 1) (nextStart (take used (was table)) point element day) ⌝ }
 {
-    if kind == 2 {
+    if kind == FEE {
         day + 1
     } else {
         next_start(table, used, point, element, day)
@@ -467,19 +513,30 @@ pub fn starts_on(table: &[u64], used: usize, point: u64, element: u64, day: u64)
     requires { ⌜ LinkRows (now table) used ⌝ }
     requires { ⌜ PairFits point element ⌝ }
     requires { ⌜ DayFits day ⌝ }
-    ensures { λ r. ⌜ r ≡ startsOn (take used (now (table .entry))) point element day ⌝ }
+    ensures { λ r. ⌜ r ≡ startsOn (take used (was table)) point element day ⌝ }
 {
-    recorded(table, used, 67108864, point * 64 + element, day)
+    recorded(table, used, FIRST_UNIT, point * ELEMENT_ROOM + element, day)
 }
 
 // Everything recorded for one point and element: that part of the table, not a copy.
 pub fn pair_part(table: &[u64], used: usize, point: u64, element: u64) -> &[u64]
     requires { ⌜ LinkRows (now table) used ⌝ }
     requires { ⌜ PairFits point element ⌝ }
-    ensures { λ r. ⌜ now r ≡ pairRows point element (take used (now (table .entry))) ⌝ }
+    ensures { λ r. ⌜ now r ≡ pairRows point element (take used (was table)) ⌝ }
 {
     let from = place(table, used, pack_period(point, element, 0, 0, 0));
     let to = place(table, used, pair_bound(point, element));
+    &table[from..to]
+}
+
+// Everything recorded for one point: that part of the table, not a copy.
+pub fn point_part(table: &[u64], used: usize, point: u64) -> &[u64]
+    requires { ⌜ LinkRows (now table) used ⌝ }
+    requires { ⌜ point < mostPoints ⌝ }
+    ensures { λ r. ⌜ now r ≡ pointRows point (take used (was table)) ⌝ }
+{
+    let from = place(table, used, point * POINT_UNIT);
+    let to = place(table, used, (point + 1) * POINT_UNIT);
     &table[from..to]
 }
 
@@ -488,7 +545,7 @@ pub fn pair_part(table: &[u64], used: usize, point: u64, element: u64) -> &[u64]
 // Is every place past the rows 0. Linear in the places.
 fn zeros_behind(table: &[u64], used: usize) -> bool
     requires { ⌜ used ≤ length (now table) ⌝ }
-    ensures { λ r. ⌜ r ≡ allIn isZero (drop used (now (table .entry))) ⌝ }
+    ensures { λ r. ⌜ r ≡ allIn isZero (drop used (was table)) ⌝ }
 {
     let mut i = used;
     while i < table.len() {
@@ -503,13 +560,13 @@ fn zeros_behind(table: &[u64], used: usize) -> bool
 
 // Fees are one day long, tariff quantities 1. Constant time.
 fn kind_allows(kind: u8, first: u64, end: u64, quantity: u64) -> bool
-    requires { ⌜ first < 65536 ⌝ }
+    requires { ⌜ first < dayRoom ⌝ }
     ensures { λ r. ⌜ r ≡ kindAllows kind first end quantity ⌝ }
 {
-    if kind == 2 {
+    if kind as u64 == FEE {
         return end == first + 1;
     }
-    if kind == 3 {
+    if kind as u64 == TARIFF {
         return quantity == 1;
     }
     true
@@ -517,8 +574,8 @@ fn kind_allows(kind: u8, first: u64, end: u64, quantity: u64) -> bool
 
 // Is a period right by itself. Constant time.
 fn period_right(book: Book, element_data: &[u8], word: u64) -> bool
-    requires { ⌜ length (now element_data) ≡ book .elements * 3 ⌝ }
-    ensures { λ r. ⌜ r ≡ periodRight (openingOf book (now (element_data .entry)) []) word ⌝ }
+    requires { ⌜ length (now element_data) ≡ book .elements * elementSize ⌝ }
+    ensures { λ r. ⌜ r ≡ periodRight (openingOf book (was element_data) []) word ⌝ }
 {
     let element = element_of(word);
     let first = first_of(word);
@@ -531,7 +588,7 @@ fn period_right(book: Book, element_data: &[u8], word: u64) -> bool
         return false;
     }
     if days_right(first, end, quantity) {
-        let at = element as usize * 3;
+        let at = element as usize * ELEMENT_SIZE;
         return kind_allows(element_data[at], first, end, quantity);
     }
     false
@@ -544,13 +601,13 @@ fn days_right(first: u64, end: u64, quantity: u64) -> bool
     if end <= first {
         return false;
     }
-    if 36525 < end {
+    if END_OF_DAYS < end {
         return false;
     }
     if quantity == 0 {
         return false;
     }
-    quantity <= 999
+    quantity <= MOST_QUANTITY
 }
 
 // Are two periods in order, and without overlap where both are of one point and element. Constant time.
@@ -568,9 +625,9 @@ fn are_apart(word: u64, next: u64) -> bool
 
 // Is the row at a place right by itself and in order behind the one before. Constant time.
 fn period_fits(book: Book, element_data: &[u8], table: &[u64], i: usize) -> bool
-    requires { ⌜ length (now element_data) ≡ book .elements * 3 ⌝ }
+    requires { ⌜ length (now element_data) ≡ book .elements * elementSize ⌝ }
     requires { ⌜ i < length (now table) ⌝ }
-    ensures { λ r. ⌜ r ≡ fitsAt apart (periodRight (openingOf book (now (element_data .entry)) [])) (now (table .entry)) i ⌝ }
+    ensures { λ r. ⌜ r ≡ rowFitsAt apart (periodRight (openingOf book (was element_data) [])) (was table) i ⌝ }
 {
     let word = table[i];
     if period_right(book, element_data, word) {
@@ -585,9 +642,9 @@ fn period_fits(book: Book, element_data: &[u8], table: &[u64], i: usize) -> bool
 
 // Question 5 of the table of links. Linear in the places.
 pub fn links_right(book: Book, element_data: &[u8], table: &[u64], used: usize) -> bool
-    requires { ⌜ length (now element_data) ≡ book .elements * 3 ⌝ }
+    requires { ⌜ length (now element_data) ≡ book .elements * elementSize ⌝ }
     requires { ⌜ used ≤ length (now table) ⌝ }
-    ensures { λ r. ⌜ r ≡ linksRight (openingOf book (now (element_data .entry)) []) (record { used = used; words = now (table .entry) }) ⌝ }
+    ensures { λ r. ⌜ r ≡ linksRight (openingOf book (was element_data) []) (record { used = used; words = was table }) ⌝ }
 {
     let mut i = 0;
     while i < used {
@@ -609,7 +666,7 @@ fn value_right(book: Book, size: u64, low: u64, high: u64, word: u64) -> bool
     if book.points <= value_point_of(size, word) {
         return false;
     }
-    if 36525 <= value_first_of(size, word) {
+    if END_OF_DAYS <= value_first_of(size, word) {
         return false;
     }
     if value < low {
@@ -622,7 +679,7 @@ fn value_right(book: Book, size: u64, low: u64, high: u64, word: u64) -> bool
 fn value_fits(book: Book, size: u64, low: u64, high: u64, table: &[u64], i: usize) -> bool
     requires { ⌜ 0 < size ⌝ }
     requires { ⌜ i < length (now table) ⌝ }
-    ensures { λ r. ⌜ r ≡ fitsAt (earlier size) (valueRight size low high (openingOf book [] [])) (now (table .entry)) i ⌝ }
+    ensures { λ r. ⌜ r ≡ rowFitsAt (earlier size) (valueRight size low high (openingOf book [] [])) (was table) i ⌝ }
 {
     let word = table[i];
     if value_right(book, size, low, high, word) {
@@ -639,7 +696,8 @@ fn value_fits(book: Book, size: u64, low: u64, high: u64, table: &[u64], i: usiz
 pub fn values_right(book: Book, size: u64, low: u64, high: u64, table: &[u64], used: usize) -> bool
     requires { ⌜ 0 < size ⌝ }
     requires { ⌜ used ≤ length (now table) ⌝ }
-    ensures { λ r. ⌜ r ≡ tableRight (earlier size) (valueRight size low high (openingOf book [] [])) (record { used = used; words = now (table .entry) }) ⌝ }
+    ensures { λ r. ⌜ r ≡ tableRight (earlier size) (valueRight size low high (openingOf book [] []))
+        (record { used = used; words = was table }) ⌝ }
 {
     let mut i = 0;
     while i < used {
@@ -655,16 +713,16 @@ pub fn values_right(book: Book, size: u64, low: u64, high: u64, table: &[u64], u
 // Question 5 of the table of holders. Linear in the places.
 pub fn holders_right(book: Book, table: &[u64], used: usize) -> bool
     requires { ⌜ used ≤ length (now table) ⌝ }
-    ensures { λ r. ⌜ r ≡ holdersRight (openingOf book [] []) (record { used = used; words = now (table .entry) }) ⌝ }
+    ensures { λ r. ⌜ r ≡ holdersRight (openingOf book [] []) (record { used = used; words = was table }) ⌝ }
 {
     let high = book.suppliers;
-    values_right(book, 32, 0, high, table, used)
+    values_right(book, HOLDER_SIZE, 0, high, table, used)
 }
 
 // Question 5 of the table of states. Linear in the places.
 pub fn states_right(book: Book, table: &[u64], used: usize) -> bool
     requires { ⌜ used ≤ length (now table) ⌝ }
-    ensures { λ r. ⌜ r ≡ statesRight (openingOf book [] []) (record { used = used; words = now (table .entry) }) ⌝ }
+    ensures { λ r. ⌜ r ≡ statesRight (openingOf book [] []) (record { used = used; words = was table }) ⌝ }
 {
-    values_right(book, 8, 1, 4, table, used)
+    values_right(book, STATE_SIZE, NEW, CLOSED, table, used)
 }

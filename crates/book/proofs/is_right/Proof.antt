@@ -1,7 +1,7 @@
--- `book::is_right` meets its contract: the tests of the rules, part by part.
-use mathlib.Core.Path.{_∙_}
-use Rattle.rules.specs.WellFormed.{linesRight, question5}
+-- The tests of the rules, part by part.
+use Rattle.rules.proofs.Tests.{two-are, three-are}
 use Rattle.rules.specs.World.{lineCount}
+use Rattle.rules.specs.WellFormed.{linesRight, question5}
 use borrow.Author.Needs.{needs}
 use Rattle.book.proofs.is_right.Statement.{statement}
 use Rattle.book.proofs.is_right.Tie as tie
@@ -27,16 +27,21 @@ both-requires c κs = search needs
 all-three-requires : tie.Need-all-three-requires
 all-three-requires c κs = search needs
 
+abbrev lines-of : tie.After-lines-right2 → tie.After-lines-right
+lines-of c = search
+
+abbrev tables-of : tie.After-lines-right → tie.After-tables-right
+tables-of c = search
+
 returns : tie.Need-returns
 unfolding question5 linesRight lineCount
-returns c = let s = c .before .before .before .before .before .before .before .before .before .before .before .before in
-    c .all-three .ensures ∙ rw (
-      c .before .before .before .before .before .tables-right .ensures (s .args .prices .now),
-      c .before .before .before .before .lines-right .ensures,
-      c .before .both .ensures,
-      c .before .before .before .lines-right2 .ensures,
-      c .before .before .is-within .ensures,
-    )
+returns c o =
+    let round : tie.After-is-within = search in
+    let sent : tie.After-lines-right2 = search in
+    let lines = lines-of sent in
+    let tables = tables-of lines in
+    three-are (c .all-three .ensures) (tables .tables-right .ensures o) (lines .lines-right .ensures)
+    (two-are (c .before .both .ensures) (sent .lines-right2 .ensures) (round .is-within .ensures))
 
 pub is-right-spec : {M : Type 1} → statement M
 is-right-spec =

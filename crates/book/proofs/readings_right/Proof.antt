@@ -1,4 +1,4 @@
--- `book::readings_right` meets its contract: every reading passed so far is right, and one that is not answers.
+-- Every reading passed so far is right, and one that is not answers.
 use Prim.Native.Nat.{ℕ, _≤_, _<_, _-_}
 use mathlib.Core.Path.{_≡_, sym}
 use borrow.Author.Tests.{le-leb, lt-leb}
@@ -25,6 +25,9 @@ mul-if1 c = search needs
 
 shared-slice-read-if1 : tie.Need-shared-slice-read-if1 Inv-loop μ-loop
 shared-slice-read-if1 c = search needs
+
+cast-if1 : tie.Need-cast-if1 Inv-loop μ-loop
+cast-if1 c = search needs
 
 add-i : tie.Need-add-i Inv-loop μ-loop
 add-i c = search needs
@@ -56,6 +59,7 @@ readings-right-spec =
     loop-holds
     mul-if1
     shared-slice-read-if1
+    cast-if1
     add-i
     loop-less
     loop-again

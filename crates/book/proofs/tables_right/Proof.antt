@@ -1,6 +1,7 @@
--- `book::tables_right` meets its contract: the tests of the tables, none of which looks at prices.
-use mathlib.Core.Path.{_∙_}
+-- The tests of the tables, none of which looks at prices.
+use mathlib.Core.Path.{sym, _∙_}
 use Rattle.rules.specs.WellFormed.{tablesRight}
+use Rattle.rules.proofs.Tests.{three-are}
 use Rattle.tables.proofs.Right.{links-any, holders-any, states-any}
 use borrow.Author.Needs.{needs}
 use Rattle.book.proofs.tables_right.Statement.{statement}
@@ -27,23 +28,40 @@ holders-right-requires c κs = search needs
 all-three-requires-2 : tie.Need-all-three-requires-2
 all-three-requires-2 c κs = search needs
 
+-- the places after each call, from the last to the first
+abbrev rest-of : tie.After-links-right → tie.After-all-three
+rest-of c = search
+
+abbrev blocks-of : tie.After-all-three → tie.After-blocks-right
+blocks-of c = search
+
+abbrev readings-of : tie.After-blocks-right → tie.After-readings-right
+readings-of c = search
+
+abbrev states-of : tie.After-readings-right → tie.After-states-right
+states-of c = search
+
+abbrev start-of : tie.After-states-right → tie.Start
+start-of c = search
+
 returns : tie.Need-returns
 unfolding tablesRight
-returns c ps = let s = c .before .before .before .before .before .before .before .before .before .before .before .before .before in
-    c .all-three2 .ensures ∙ rw (
-      c .before .before .before .all-three .ensures,
-      c .before .before .links-right .ensures,
-      c .before .holders-right .ensures,
-      c .before .before .before .before .before .before .states-right .ensures,
-      c .before .before .before .before .before .readings-right .ensures,
-      c .before .before .before .before .blocks-right .ensures,
-      links-any
-          (s .args .book) (s .args .element-data .now) ps (record { used = s .args .book .periods; words = (s .args .links .now) }),
-      holders-any
-          (s .args .book) (s .args .element-data .now) ps (record { used = s .args .book .holders; words = (s .args .holders .now) }),
-      states-any
-          (s .args .book) (s .args .element-data .now) ps (record { used = s .args .book .states; words = (s .args .states .now) }),
-    )
+returns c o =
+    let holders : tie.After-holders-right = search in
+    let links : tie.After-links-right = search in
+    let rest = rest-of links in
+    let blocks = blocks-of rest in
+    let readings = readings-of blocks in
+    let states = states-of readings in
+    let a = start-of states .args in
+    let ds = a .element-data .now in
+    three-are (c .all-three2 .ensures)
+    (links .links-right .ensures ∙ sym (links-any (a .book) ds (o .prices) (record { used = a .book .periods; words = a .links .now })))
+    (holders .holders-right .ensures ∙ sym (holders-any (a .book) ds (o .prices) (record { used = a .book .holders; words = a .holders .now })))
+    (three-are (rest .all-three .ensures)
+    (states .states-right .ensures ∙ sym (states-any (a .book) ds (o .prices) (record { used = a .book .states; words = a .states .now })))
+    (readings .readings-right .ensures)
+    (blocks .blocks-right .ensures))
 
 pub tables-right-spec : {M : Type 1} → statement M
 tables-right-spec =

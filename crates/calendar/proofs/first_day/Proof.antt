@@ -1,4 +1,4 @@
--- The sum is that of the months before, shortened by February's days from March on.
+-- `calendar::first_day` meets its contract: the sum is that of the months before, shortened by February's days from March on.
 use mathlib.Core.Path.{sym, _∙_}
 use borrow.Author.Tests.{lt-ltb, le-ltb}
 use Rattle.calendar.proofs.Arithmetic.{first-by}
@@ -6,9 +6,6 @@ use native.Mathlib.Omega.{arith}
 use borrow.Author.Needs.{needs}
 use Rattle.calendar.proofs.first_day.Statement.{statement}
 use Rattle.calendar.proofs.first_day.Tie as tie
-use Rattle.calendar.proofs.first_day.Reads as reads
-use Rattle.calendar.proofs.first_day.Lts as lts
-use Rattle.calendar.proofs.is_leap.Reads as is-leap-reads
 
 sub-years : tie.Need-sub-years
 sub-years c = search needs
@@ -45,14 +42,18 @@ sub-result-2 c = search needs
 
 returns : tie.Need-returns
 returns c =
-    let h = rw (lt-ltb _ 2 (c .if1 .taken)) at (first-by (c .before .args .year) (c .before .args .month) (c .before .pre)) in
+    let h = rw (lt-ltb _ 2 (c .if1 .taken)) at (first-by (c .before .pre)) in
     omega (arith, h)
 
 returns-2 : tie.Need-returns-2
-returns-2 c = rw (le-ltb _ 2 (c .before .before .if1 .left), sym (c .before .is-leap .ensures) ∙ c .if2 .taken) at (first-by (c .before .before .before .args .year) (c .before .before .before .args .month) (c .before .before .before .pre))
+returns-2 c =
+    let start : tie.Start = search in
+    rw (le-ltb _ 2 (c .before .before .if1 .left), sym (c .before .is-leap .ensures) ∙ c .if2 .taken) at (first-by (start .pre))
 
 returns-3 : tie.Need-returns-3
-returns-3 c = rw (le-ltb _ 2 (c .before .before .if1 .left), sym (c .before .is-leap .ensures) ∙ c .if2 .left) at (first-by (c .before .before .before .args .year) (c .before .before .before .args .month) (c .before .before .before .pre))
+returns-3 c =
+    let start : tie.Start = search in
+    rw (le-ltb _ 2 (c .before .before .if1 .left), sym (c .before .is-leap .ensures) ∙ c .if2 .left) at (first-by (start .pre))
 
 pub first-day-spec : {M : Type 1} → statement M
 first-day-spec =

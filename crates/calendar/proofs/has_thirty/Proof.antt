@@ -1,12 +1,8 @@
--- Two months of each half of the year.
+-- `calendar::has_thirty` meets its contract: two months of each half of the year.
 use Rattle.calendar.specs.Gregorian.{hasThirty}
 use Rattle.calendar.proofs.Arithmetic.{thirty-early, thirty-late}
-use native.Mathlib.Omega.{arith}
-use borrow.Author.Needs.{needs}
 use Rattle.calendar.proofs.has_thirty.Statement.{statement}
 use Rattle.calendar.proofs.has_thirty.Tie as tie
-use Rattle.calendar.proofs.has_thirty.Reads as reads
-use Rattle.calendar.proofs.has_thirty.Lts as lts
 
 returns : tie.Need-returns
 unfolding hasThirty

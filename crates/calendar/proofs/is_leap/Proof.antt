@@ -1,11 +1,7 @@
--- Of these years each that 4 divides is a leap year.
+-- `calendar::is_leap` meets its contract: of these years each that 4 divides is a leap year.
 use Rattle.calendar.proofs.Arithmetic.{leap-by-four}
-use native.Mathlib.Omega.{arith}
-use borrow.Author.Needs.{needs}
 use Rattle.calendar.proofs.is_leap.Statement.{statement}
 use Rattle.calendar.proofs.is_leap.Tie as tie
-use Rattle.calendar.proofs.is_leap.Reads as reads
-use Rattle.calendar.proofs.is_leap.Lts as lts
 
 returns : tie.Need-returns
 returns c = leap-by-four (c .args .year) (c .pre .0) (c .pre .1)

@@ -1,5 +1,5 @@
--- `history::run` meets its contract: after i turns the world, the list and the table of answers are those of the rules' run of the first i messages, and
--- every lent list has its length.
+-- `history::run` meets its contract: after i turns the world, the list and the table of answers are those of the rules' run of the first i
+-- messages, and every lent list has its length.
 use Prim.Native.Nat.{_-_, _/_, _≤_, min}
 use mathlib.Core.Path.{_≡_, refl, _∙_}
 use lib.ListN.{length}

@@ -1,6 +1,7 @@
--- `listing::message` meets its contract: a walk of its MIR. The slices are lent to each call for lifetimes made for it, and come back at the lists that the call left.
--- All that the proof knows of the callees is that they meet their contracts. What follows a call is a lemma of its own, with the call's results as variables. The local array stands as its elements in memory, and is room again at the end.
--- Assumes nothing.
+-- `listing::message` meets its contract: a walk of its MIR. The slices are lent to each call for lifetimes made for it, and come back at
+-- the lists that the call left. All that the proof knows of the callees is that they meet their contracts. What follows a call is a lemma
+-- of its own, with the call's results as variables. The local array stands as its elements in memory, and is room again at the end. Assumes
+-- nothing.
 use mathlib.Core.Path.{_≡_, refl, sym, _∙_, ap, subst}
 use Prim.Native.Nat.{ℕ, _≤_}
 use mathlib.Core.List.{[], _∷_, List, _++_}
@@ -56,8 +57,8 @@ use Rattle.rules.proofs.Book.Laws as B′
 use Rattle.rules.proofs.Fields as F
 use Rattle.rules.proofs.Fields.Laws as F′
 use Rattle.rules.proofs.Record as T
-use Rattle.rounds.specs.Moved.{IsWorld}
-use Rattle.rounds.proofs.Sending.{world-of}
+use Rattle.ledger.specs.Moved.{IsWorld}
+use Rattle.ledger.proofs.Sending.{world-of}
 use Rattle.settlement.specs.declared.Reply.{Reply}
 use Rattle.settlement.specs.Replies.{Answered, Due}
 use Rattle.settlement.proofs.Reply as Y
@@ -69,10 +70,10 @@ use Rattle.settlement.proofs.due as due
 use Rattle.settlement.proofs.due.Symbol as due-def
 use Rattle.settlement.proofs.due.Symbol.{name as #settlement·due}
 use Rattle.settlement.proofs.due.Met as due-thm
-use Rattle.records.proofs.put_list as put-list
-use Rattle.records.proofs.put_list.Symbol as put-list-def
-use Rattle.records.proofs.put_list.Symbol.{name as #records·put-list}
-use Rattle.records.proofs.put_list.Met as put-list-thm
+use Rattle.ledger.proofs.records.put_list as put-list
+use Rattle.ledger.proofs.records.put_list.Symbol as put-list-def
+use Rattle.ledger.proofs.records.put_list.Symbol.{name as #records·put-list}
+use Rattle.ledger.proofs.records.put_list.Met as put-list-thm
 use Rattle.settlement.proofs.take as take
 use Rattle.settlement.proofs.take.Symbol as take-def
 use Rattle.settlement.proofs.take.Symbol.{name as #settlement·take}
@@ -907,5 +908,5 @@ message-spec 𝓤 H 𝓜 𝓖 𝓡 =
     (tables 𝓤 H 𝓜 𝓡 code.env .C) (tables 𝓤 H 𝓜 𝓡 code.env .Λ) #listing·message code.function (code.unfolded 𝓤 H 𝓜 𝓡)
     (message-meets 𝓤 H (𝓖 .A) (givenOf 𝓤 H 𝓜 𝓖) (𝓜 .mem) (𝓡 .run) (tablesOf 𝓤 H 𝓜 (tables 𝓤 H 𝓜 𝓡 code.env))
     (cited 𝓤 H (C-due 𝓤 H (𝓖 .A) (𝓜 .mem) (𝓡 .run)) 𝓜 𝓡 code.env #settlement·due due-def.routine code.calls-settlement·due (due-thm.met 𝓤 H 𝓜 𝓖 𝓡))
-    (cited 𝓤 H (C-put-list 𝓤 H (𝓖 .A) (𝓜 .mem) (𝓡 .run)) 𝓜 𝓡 code.env #records·put-list put-list-def.routine code.calls-records·put-list (put-list-thm.met 𝓤 H 𝓜 𝓖 𝓡))
+    (cited 𝓤 H (C-put-list 𝓤 H (𝓖 .A) (𝓜 .mem) (𝓡 .run)) 𝓜 𝓡 code.env #records·put-list put-list-def.routine code.calls-ledger·records·put-list (put-list-thm.met 𝓤 H 𝓜 𝓖 𝓡))
     (cited 𝓤 H (C-take 𝓤 H (𝓖 .A) (𝓜 .mem) (𝓡 .run)) 𝓜 𝓡 code.env #settlement·take take-def.routine code.calls-settlement·take (take-thm.met 𝓤 H 𝓜 𝓖 𝓡)))

@@ -1,5 +1,6 @@
--- `listing::message_text` meets its contract: a walk of its MIR. The slices are lent to each call for lifetimes made for it, and come back at the lists that the call left.
--- All that the proof knows of the callees is that they meet their contracts. What follows a call is a lemma of its own, with the call's results as variables. The local array stands as its elements in memory, and is room again at the end.
+-- `listing::message_text` meets its contract: a walk of its MIR. The slices are lent to each call for lifetimes made for it, and come back
+-- at the lists that the call left. All that the proof knows of the callees is that they meet their contracts. What follows a call is a
+-- lemma of its own, with the call's results as variables. The local array stands as its elements in memory, and is room again at the end.
 -- Assumes nothing.
 use mathlib.Core.Path.{_≡_, refl, sym, _∙_, ap, subst}
 use Prim.Native.Nat.{ℕ, _+_, _*_, _≤_}
@@ -56,9 +57,9 @@ use Rattle.rules.proofs.Fields as F
 use Rattle.rules.proofs.Fields.Laws as F′
 use Rattle.rules.proofs.Record as T
 use Rattle.rules.proofs.Record.Laws as T′
-use Rattle.rules.proofs.Parts.{Whole}
-use Rattle.wire.specs.Lines.{refusedLine, longestLine, Written}
-use Rattle.wire.specs.Program.{recordPlaces, recordLines}
+use Rattle.rules.specs.Whole.{Whole}
+use Rattle.file.specs.Lines.{refusedLine, longestLine, Written}
+use Rattle.file.specs.Program.{recordPlaces, recordLines}
 use Rattle.settlement.specs.declared.Reply.{Reply}
 use Rattle.settlement.proofs.Reply as Y
 use Rattle.settlement.proofs.Reply.Laws as Y′

@@ -1,6 +1,6 @@
--- `listing::put_entries` meets its contract: a walk of its MIR. At a turn the lines of the first i records stand in `out` from the place on, and `written` is the place behind them.
--- A turn lends `out` to `put_entry`, of which the proof knows only that it meets its contract, for a lifetime made for the call, and has it back with one line more.
--- Assumes nothing.
+-- `listing::put_entries` meets its contract: a walk of its MIR. At a turn the lines of the first i records stand in `out` from the place
+-- on, and `written` is the place behind them. A turn lends `out` to `put_entry`, of which the proof knows only that it meets its contract,
+-- for a lifetime made for the call, and has it back with one line more. Assumes nothing.
 use mathlib.Core.Path.{_≡_, refl, sym, _∙_, ap, subst}
 use Prim.Native.Nat.{ℕ, _+_, _-_, _*_, _≤_, _<_, _^_, zero-le}
 use native.Mathlib.Nat.{eq-or-lt-of-le, le-of-eq}
@@ -50,8 +50,8 @@ use denote.Triple.Walked.{says, needs, Stays, stay-slice, stay-none, stay-none-s
 use denote.Exit.{yes}
 use Rattle.rules.specs.declared.Record.{Record}
 use Rattle.rules.proofs.Record as T
-use Rattle.wire.specs.Lines.{recordLine, longestLine, Written}
-use Rattle.wire.specs.Program.{recordLines}
+use Rattle.file.specs.Lines.{recordLine, longestLine, Written}
+use Rattle.file.specs.Program.{recordLines}
 use Rattle.listing.specs.Replies.{noRecord}
 use Rattle.listing.proofs.Lending.{LentAgain, lends-again, comes-back}
 use Rattle.listing.proofs.Texts.{no-lines, line-more, line-fits}

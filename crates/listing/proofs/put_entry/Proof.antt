@@ -1,6 +1,6 @@
--- `listing::put_entry` meets its contract: a walk of its MIR. The slices are lent to each call for lifetimes made for it, and come back at the lists that the call left.
--- All that the proof knows of the callees is that they meet their contracts. What follows a call is a lemma of its own, with the call's results as variables.
--- Assumes nothing.
+-- `listing::put_entry` meets its contract: a walk of its MIR. The slices are lent to each call for lifetimes made for it, and come back at
+-- the lists that the call left. All that the proof knows of the callees is that they meet their contracts. What follows a call is a lemma
+-- of its own, with the call's results as variables. Assumes nothing.
 use mathlib.Core.Path.{_≡_, refl, ap, subst}
 use Prim.Native.Nat.{ℕ, _+_, _≤_, _<_}
 use mathlib.Core.List.{[], _∷_, List}
@@ -43,17 +43,17 @@ use denote.Exit.{yes}
 use Rattle.rules.specs.declared.Record.{Record}
 use Rattle.rules.proofs.Record as T
 use Rattle.rules.proofs.Record.Laws as T′
-use Rattle.wire.specs.Lines.{recordLine, longestLine, Written}
+use Rattle.file.specs.Lines.{recordLine, longestLine, Written}
 use Rattle.listing.specs.Replies.{noRecord}
 use Rattle.listing.proofs.Lending.{LentAgain, lends-again, comes-back}
 use Rattle.listing.proofs.record_in as record-in
 use Rattle.listing.proofs.record_in.Symbol as record-in-def
 use Rattle.listing.proofs.record_in.Symbol.{name as #listing·record-in}
 use Rattle.listing.proofs.record_in.Met as record-in-thm
-use Rattle.wire.proofs.put_record as put-record
-use Rattle.wire.proofs.put_record.Symbol as put-record-def
-use Rattle.wire.proofs.put_record.Symbol.{name as #wire·put-record}
-use Rattle.wire.proofs.put_record.Met as put-record-thm
+use Rattle.file.proofs.output.put_record as put-record
+use Rattle.file.proofs.output.put_record.Symbol as put-record-def
+use Rattle.file.proofs.output.put_record.Symbol.{name as #wire·put-record}
+use Rattle.file.proofs.output.put_record.Met as put-record-thm
 use Rattle.listing.proofs.put_entry.Key.{name as #listing·put-entry}
 use Rattle.listing.proofs.put_entry as self
 use Rattle.listing.proofs.put_entry.Statement as stated
@@ -308,4 +308,4 @@ put-entry-spec 𝓤 H 𝓜 𝓖 𝓡 =
     (tables 𝓤 H 𝓜 𝓡 code.env .C) (tables 𝓤 H 𝓜 𝓡 code.env .Λ) #listing·put-entry code.function (code.unfolded 𝓤 H 𝓜 𝓡)
     (put-entry-meets 𝓤 H (𝓖 .A) (givenOf 𝓤 H 𝓜 𝓖) (𝓜 .mem) (𝓡 .run) (tablesOf 𝓤 H 𝓜 (tables 𝓤 H 𝓜 𝓡 code.env))
     (cited 𝓤 H (C-record-in 𝓤 H (𝓖 .A) (𝓜 .mem) (𝓡 .run)) 𝓜 𝓡 code.env #listing·record-in record-in-def.routine code.calls-listing·record-in (record-in-thm.met 𝓤 H 𝓜 𝓖 𝓡))
-    (cited 𝓤 H (C-put-record 𝓤 H (𝓖 .A) (𝓜 .mem) (𝓡 .run)) 𝓜 𝓡 code.env #wire·put-record put-record-def.routine code.calls-wire·put-record (put-record-thm.met 𝓤 H 𝓜 𝓖 𝓡)))
+    (cited 𝓤 H (C-put-record 𝓤 H (𝓖 .A) (𝓜 .mem) (𝓡 .run)) 𝓜 𝓡 code.env #wire·put-record put-record-def.routine code.calls-file·output·put-record (put-record-thm.met 𝓤 H 𝓜 𝓖 𝓡)))

@@ -1,5 +1,5 @@
--- `listing::record_in` meets its contract: a walk of its MIR. The place of `list[at]` is computed, the borrow is looked into, element `at` is taken out of the row, read and put back, and the borrow is shut.
--- Assumes nothing.
+-- `listing::record_in` meets its contract: a walk of its MIR. The place of `list[at]` is computed, the borrow is looked into, element `at`
+-- is taken out of the row, read and put back, and the borrow is shut. Assumes nothing.
 use mathlib.Core.Path.{refl, sym}
 use Prim.Native.Nat.{ℕ, _<_, _^_, _*_}
 use native.Mathlib.Omega.{arith}
@@ -105,7 +105,8 @@ module _ {M : Type 1} (𝓤 : URA M) (H : Heap 𝓤) (A : Atoms 𝓤) (W : Given
         fsplit ! $ move ! (1 ∷ []) $ fsplit ! $ move ! (16 ∷ []) $ split ! $ move ! (3 ∷ 0 ∷ []) $
         looks-slice ! tt R (Is R) (shows 𝓤 H A R) (LL.vals T.the-type T′.the-laws) (LL.tells T.the-type T′.the-laws) (LL.copy T.the-type T′.the-copy 𝓤 H A W) ys b o (λ q′.
         elem-out ! R (Is R) (shows 𝓤 H A R) (LL.vals T.the-type T′.the-laws) (LL.tells T.the-type T′.the-laws) q′ ys n noRecord b o within (λ g.
-        -- [list[at]; what it owns; the others; the open borrow; the borrow; true; res; list's fact; what list and at own; _5; …; _4; …; _3; …; _2; …; _1; …; room for _0; …]
+        -- [list[at]; what it owns; the others; the open borrow; the borrow; true; res; list's fact; what list and at own; _5; …; _4; …; _3;
+        -- …; _2; …; _1; …; room for _0; …]
         assigns ! (of-opd ! (load ! (from ! (hop ! (look ! 11 refl) (stop !))) (look-raw ! 0 refl))) (from ! (stop !)) (init ! 9 refl (LL.lawful T.the-type T′.the-laws 𝓤 H A W .typed e _ g .0)) $
         elem-back ! R q′ ys n noRecord (mach ∷ []) b o within $ shuts-slice ! tt R q′ ys b o $
         assigns ! (of-opd ! (load ! (from ! (stop !)) (look ! 6 refl))) (from ! (stop !)) (init ! 16 refl (LL.lawful T.the-type T′.the-laws 𝓤 H A W .typed e _ g .0)) $

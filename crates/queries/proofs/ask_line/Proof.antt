@@ -1,22 +1,27 @@
--- `queries::ask_line` meets its contract: question 6, then question 8.
-use mathlib.Core.Path.{refl, _∙_}
-use Rattle.queries.proofs.Asks.{ask-two}
+-- Question 6 of the supplier, then question 8.
+use mathlib.Core.Path.{sym, _∙_}
+use Rattle.rules.specs.Effects.{ask}
 use borrow.Author.Needs.{needs}
 use Rattle.queries.proofs.ask_line.Statement.{statement}
 use Rattle.queries.proofs.ask_line.Tie as tie
 
-ask-supplier-requires : tie.Need-ask-supplier-requires
-ask-supplier-requires c κs = search needs
+is-within-requires : tie.Need-is-within-requires
+is-within-requires c κs = search needs
 
 ask-element-requires : tie.Need-ask-element-requires
 ask-element-requires c κs = search needs
 
-first-no-requires : tie.Need-first-no-requires
-first-no-requires c κs = search needs
-
 returns : tie.Need-returns
-returns c = c .first-no .ensures ∙ rw (c .before .before .ask-supplier .ensures, c .before .ask-element .ensures) (ask-two _ _ 6 8 refl)
+unfolding ask
+returns c =
+    let within : tie.After-is-within = search in
+    rw (sym (within .is-within .ensures) ∙ c .before .if1 .taken) (c .ask-element .ensures)
+
+returns-2 : tie.Need-returns-2
+unfolding ask
+returns-2 c =
+    let within : tie.After-is-within = search in
+    rw (sym (within .is-within .ensures) ∙ c .if1 .left)
 
 pub ask-line-spec : {M : Type 1} → statement M
-ask-line-spec =
-    tie.close (tie.spec ask-supplier-requires ask-element-requires first-no-requires returns)
+ask-line-spec = tie.close (tie.spec is-within-requires ask-element-requires returns returns-2)

@@ -1,47 +1,52 @@
--- `queries::day_without_holder` meets its contract: the questions of the book, then the query of a well-formed one.
-use mathlib.Core.Path.{sym, _∙_}
-use mathlib.Core.Logic.{_≢_}
+-- Where question 7 does not say no, the search answers.
+use mathlib.Core.Path.{_≡_, sym, _∙_}
 use borrow.Author.Tests.{ne-eqb}
-use Rattle.rules.specs.World.{World, worldOf}
-use Rattle.rules.specs.Effects.{askBook}
-use Rattle.book.proofs.Passes.{book-whole}
-use Rattle.queries.proofs.Asks.{day-stands}
+use Rattle.rules.specs.World.{World}
+use Rattle.rules.specs.Queries.{dayNumber}
+use Rattle.rules.specs.Answers.{numberOf}
+use Rattle.rules.specs.Whole.{Whole}
+use Rattle.rules.specs.Lent.{Lists, worldIn, lendRows}
+use Rattle.queries.proofs.Asks.{day-asks}
+use Rattle.queries.proofs.Lacks.{point-asked}
 use borrow.Author.Needs.{needs}
 use Rattle.queries.proofs.day_without_holder.Statement.{statement}
 use Rattle.queries.proofs.day_without_holder.Tie as tie
 
--- the book as it is lent
-abbrev world : tie.Start → World
-world s = worldOf (s .args .book) (s .args .element-data .now) (s .args .prices .now) (s .args .links .now) (s .args .holders .now)
-    (s .args .states .now) (s .args .readings .now) (s .args .blocks .now) (s .args .lines .now) (s .args .sent .now)
+-- what is lent, and any other tables
+abbrev lent : tie.Start → Lists → Lists
+lent s o = lendRows (s .args .links .now) (s .args .holders .now) (s .args .states .now) o
 
-check-book-requires : tie.Need-check-book-requires
-check-book-requires c κs = search needs
+abbrev start-of : tie.After-ask-point → tie.Start
+start-of c = search
+
+-- the code's question is the query's
+number-is : (c : tie.After-ask-point) (o : Lists) → Whole (worldIn (start-of c .args .book) (lent (start-of c) o))
+    → numberOf (c .ask-point .result) ≡ dayNumber (worldIn (start-of c .args .book) (lent (start-of c) o)) (start-of c .args .point)
+number-is c o whole = let s = start-of c in c .ask-point .ensures ∙ day-asks (worldIn (s .args .book) (lent s o)) whole (s .args .point)
+
+ask-point-requires : tie.Need-ask-point-requires
+ask-point-requires c κs = search needs
 
 number-requires : tie.Need-number-requires
 number-requires c κs = search needs
 
-day-without-holder-within-requires : tie.Need-day-without-holder-within-requires
-day-without-holder-within-requires c κs = let s = c .before .before .before .before .before .before .before .before .before in
-    book-whole (world s) (sym (c .before .before .check-book .ensures) ∙ sym (c .before .number .ensures) ∙ c .if1 .taken)
+find-day-requires : tie.Need-find-day-requires
+find-day-requires c κs =
+    let start : tie.Start = search in
+    let asked : tie.After-ask-point = search in
+    let o = start .pre .0 in
+    point-asked (start .args .book) (lent start o) (start .args .point)
+    (sym (number-is asked o (start .pre .1)) ∙ sym (c .before .number .ensures) ∙ c .if1 .taken)
 
 returns : tie.Need-returns
 returns c = search needs
 
 returns-2 : tie.Need-returns-2
-returns-2 c =
-    let s = c .before .before .before .before .before .before .before .before .before in
-    let e = c .before .before .check-book .ensures in
-    let n : askBook (world s) 0 ≢ 0 = λ z. c .if1 .left (c .before .number .ensures ∙ e ∙ z) in
-    let m = day-stands (world s) n (s .args .point) in
-    record { told = sym (ne-eqb _ _ (λ h. n (m ∙ h))); holds = e ∙ m }
+returns-2 c o whole =
+    let asked : tie.After-ask-point = search in
+    let e = number-is asked o whole in
+    record { told = sym (ne-eqb _ _ (λ h. c .if1 .left (c .before .number .ensures ∙ e ∙ h))); holds = e }
 
 pub day-without-holder-spec : {M : Type 1} → statement M
 day-without-holder-spec =
-    tie.close
-    (tie.spec
-    check-book-requires
-    number-requires
-    day-without-holder-within-requires
-    returns
-    returns-2)
+    tie.close (tie.spec ask-point-requires number-requires find-day-requires returns returns-2)

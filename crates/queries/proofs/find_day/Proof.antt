@@ -1,8 +1,10 @@
 -- `queries::find_day` meets its contract: no day of the month passed so far is one, and the first that is answers.
 use Prim.Native.Nat.{_-_}
 use mathlib.Core.Path.{sym, _∙_}
-use Rattle.calendar.specs.MonthLaws.{month-within}
+use Rattle.calendar.proofs.MonthLaws.{month-within}
 use Rattle.rules.proofs.Tests.{is-T}
+use Rattle.rules.specs.Lent.{worldIn, lendRows}
+use Rattle.queries.proofs.Asks.{day-open}
 use Rattle.queries.proofs.Lacks.{Searched, searched-more, searched-all}
 use borrow.Author.Tests.{eq-eqb}
 use native.Mathlib.Omega.{arith}
@@ -48,10 +50,13 @@ lacks-holder-requires c κs =
     (s .pre, record { from = v .from; upto = omega arith; within = omega arith })
 
 returns : tie.Need-returns Inv-loop μ-loop
-returns c ds ps rs bs ls ts h =
+returns c o whole =
+    let start : tie.Start Inv-loop μ-loop = search in
+    let a = start .args in
+    let h = day-open (worldIn (a .book) (lendRows (a .links .now) (a .holders .now) (a .states .now) o)) whole (a .point) (start .pre .point) in
     record {
       told = sym (eq-eqb _ _ h);
-      holds = record { number = h; lacks = is-T _ (sym (c .before .lacks-holder .ensures ds ps rs bs) ∙ c .if1 .taken) };
+      holds = record { number = h; lacks = is-T _ (sym (c .before .lacks-holder .ensures o) ∙ c .if1 .taken) };
     }
 
 add-day : tie.Need-add-day Inv-loop μ-loop
@@ -70,18 +75,19 @@ loop-again c =
     let a = c .before .before .before .before .before .before .before .before .before .before .args in
     let l = c .before .before .before .loop in
     searched-more (a .book) (a .links .now) (a .holders .now) (a .states .now) (a .point) _ (l .day) (l .inv) (omega arith)
-    (λ ds ps rs bs. sym (c .before .lacks-holder .ensures ds ps rs bs) ∙ c .if1 .left)
+    (λ o. sym (c .before .lacks-holder .ensures o) ∙ c .if1 .left)
 
 returns-2 : tie.Need-returns-2 Inv-loop μ-loop
-returns-2 c ds ps rs bs ls ts h =
-    let a = c .before .before .before .before .before .before .before .before .args in
+returns-2 c o whole =
+    let start : tie.Start Inv-loop μ-loop = search in
+    let a = start .args in
     let l = c .before .loop in
+    let h = day-open (worldIn (a .book) (lendRows (a .links .now) (a .holders .now) (a .states .now) o)) whole (a .point) (start .pre .point) in
     record {
       told = sym (eq-eqb _ _ h);
       holds = record {
         number = h;
-        none = searched-all (a .book) (a .links .now) (a .holders .now) (a .states .now) (a .point) _ (l .day) (l .inv)
-            (omega arith) ds ps rs bs;
+        none = searched-all (a .book) (a .links .now) (a .holders .now) (a .states .now) (a .point) _ (l .day) (l .inv) (omega arith) o;
       };
     }
 

@@ -42,7 +42,7 @@ loop-again c =
 
 returns : tie.Need-returns Inv-loop μ-loop
 unfolding linkedOn rowsOf
-returns c hs ss rs bs =
+returns c o =
     let s = c .before .before .before .before .before .before in
     let l = c .before .before .before .before .loop in
     sym (any-true (linkedBy (take (s .args .book .periods) (s .args .links .now)) (s .args .point) (s .args .day)) (s .args .book .elements)
@@ -50,7 +50,7 @@ returns c hs ss rs bs =
 
 returns-2 : tie.Need-returns-2 Inv-loop μ-loop
 unfolding linkedOn rowsOf
-returns-2 c hs ss rs bs =
+returns-2 c o =
     let s = c .before .before .before .before in
     let l = c .before .before .loop in
     let e : s .args .book .elements ≡ l .element = omega arith in

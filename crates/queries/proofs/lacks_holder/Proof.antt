@@ -1,16 +1,21 @@
--- `queries::lacks_holder` meets its contract: by cases on the holder and the state; then the links decide.
+-- By cases on the holder and the state; then the links decide.
 use mathlib.Core.Path.{sym, _∙_}
-use Rattle.rules.specs.World.{openingOf, tablesOf, monthFirst, monthDays, holderOn, stateOn, rowsOf}
+use Rattle.rules.specs.World.{monthFirst, monthDays}
+use Rattle.rules.specs.Lent.{Lists, openingIn, tablesIn, lendRows}
 use Rattle.queries.proofs.Lacks.{by-links, by-state, by-holder}
 use borrow.Author.Needs.{needs}
 use Rattle.queries.proofs.lacks_holder.Statement.{statement}
 use Rattle.queries.proofs.lacks_holder.Tie as tie
 
-value-on-requires : tie.Need-value-on-requires
-value-on-requires c κs = search needs
+-- what is lent, and any other tables
+abbrev lent : tie.Start → Lists → Lists
+lent s o = lendRows (s .args .links .now) (s .args .holders .now) (s .args .states .now) o
 
-value-on-requires-2 : tie.Need-value-on-requires-2
-value-on-requires-2 c κs = search needs
+holder-on-requires : tie.Need-holder-on-requires
+holder-on-requires c κs = search needs
+
+state-on-requires : tie.Need-state-on-requires
+state-on-requires c κs = search needs
 
 is-counting-requires : tie.Need-is-counting-requires
 is-counting-requires c κs = search needs
@@ -19,34 +24,48 @@ has-link-requires : tie.Need-has-link-requires
 has-link-requires c κs = search needs
 
 returns : tie.Need-returns
-unfolding monthFirst monthDays holderOn stateOn rowsOf
-returns c ds ps rs bs = let s = c .before .before .before .before .before .before .before .before .before in let a = s .args in
-    c .has-link .ensures (a .holders .now) (a .states .now) rs bs ∙ by-links (openingOf (a .book) ds ps) (tablesOf (a .book) (a .links .now)
-    (a .holders .now) (a .states .now) rs bs) (a .point) (a .day) (s .pre .1 .from) (s .pre .1 .upto)
-    (sym (c .before .before .before .before .before .value-on .ensures) ∙ c .before .before .before .before .if1 .taken) (rw
-    (c .before .before .before .value-on2 .ensures) at (sym (c .before .before .is-counting .ensures) ∙ c .before .if2 .taken))
+unfolding monthFirst monthDays
+returns c o =
+    let start : tie.Start = search in
+    let holder : tie.After-holder-on = search in
+    let vacant : tie.Then1 = search in
+    let state : tie.After-state-on = search in
+    let counting : tie.After-is-counting = search in
+    let a = start .args in
+    let t = lent start o in
+    c .has-link .ensures t
+    ∙ by-links (openingIn (a .book) t) (tablesIn (a .book) t) (a .point) (a .day) (start .pre .1 .from) (start .pre .1 .upto)
+    (sym (holder .holder-on .ensures t) ∙ vacant .if1 .taken)
+    (rw (state .state-on .ensures t) at (sym (counting .is-counting .ensures) ∙ c .before .if2 .taken))
 
 returns-2 : tie.Need-returns-2
-unfolding monthFirst monthDays holderOn stateOn rowsOf
-returns-2 c ds ps rs bs = let s = c .before .before .before .before .before .before .before .before in let a = s .args in
-    by-state (openingOf (a .book) ds ps) (tablesOf (a .book) (a .links .now) (a .holders .now) (a .states .now) rs bs) (a .point) (a .day)
-    (s .pre .1 .from) (s .pre .1 .upto)
-    (sym (c .before .before .before .before .value-on .ensures) ∙ c .before .before .before .if1 .taken) (rw
-    (c .before .before .value-on2 .ensures) at (sym (c .before .is-counting .ensures) ∙ c .if2 .left))
+unfolding monthFirst monthDays
+returns-2 c o =
+    let start : tie.Start = search in
+    let holder : tie.After-holder-on = search in
+    let vacant : tie.Then1 = search in
+    let state : tie.After-state-on = search in
+    let a = start .args in
+    let t = lent start o in
+    by-state (openingIn (a .book) t) (tablesIn (a .book) t) (a .point) (a .day) (start .pre .1 .from) (start .pre .1 .upto)
+    (sym (holder .holder-on .ensures t) ∙ vacant .if1 .taken)
+    (rw (state .state-on .ensures t) at (sym (c .before .is-counting .ensures) ∙ c .if2 .left))
 
 returns-3 : tie.Need-returns-3
-unfolding monthFirst monthDays holderOn stateOn rowsOf
-returns-3 c ds ps rs bs = let s = c .before .before .before .before .before in let a = s .args in
-    by-holder (openingOf (a .book) ds ps) (tablesOf (a .book) (a .links .now) (a .holders .now) (a .states .now) rs bs) (a .point) (a .day)
-    (s .pre .1 .from) (s .pre .1 .upto)
-    (λ z. c .if1 .left (c .before .value-on .ensures ∙ z))
+unfolding monthFirst monthDays
+returns-3 c o =
+    let start : tie.Start = search in
+    let a = start .args in
+    let t = lent start o in
+    by-holder (openingIn (a .book) t) (tablesIn (a .book) t) (a .point) (a .day) (start .pre .1 .from) (start .pre .1 .upto)
+    (λ z. c .if1 .left (c .before .holder-on .ensures t ∙ z))
 
 pub lacks-holder-spec : {M : Type 1} → statement M
 lacks-holder-spec =
     tie.close
     (tie.spec
-    value-on-requires
-    value-on-requires-2
+    holder-on-requires
+    state-on-requires
     is-counting-requires
     has-link-requires
     returns

@@ -9,13 +9,13 @@ sub-result : tie.Need-sub-result
 sub-result c = search needs
 
 mul-result : tie.Need-mul-result
-mul-result c = let m = place-small (c .args .elements) (c .args .supplier) (c .pre .1 .0) (c .pre .1 .1 .0) in omega arith
+mul-result c = let m = place-small (c .args .elements) (c .args .supplier) (c .pre .0 .1) (c .pre .1 .0) in omega arith
 
 add-result : tie.Need-add-result
-add-result c = let m = place-small (c .args .elements) (c .args .supplier) (c .pre .1 .0) (c .pre .1 .1 .0) in omega arith
+add-result c = let m = place-small (c .args .elements) (c .args .supplier) (c .pre .0 .1) (c .pre .1 .0) in omega arith
 
 mul-result-2 : tie.Need-mul-result-2
-mul-result-2 c = let m = place-small (c .args .elements) (c .args .supplier) (c .pre .1 .0) (c .pre .1 .1 .0) in omega arith
+mul-result-2 c = let m = place-small (c .args .elements) (c .args .supplier) (c .pre .0 .1) (c .pre .1 .0) in omega arith
 
 returns : tie.Need-returns
 returns c = search needs

@@ -1,32 +1,63 @@
--- `queries::periods` meets its contract: the questions of the book, then the part of a well-formed one.
-use mathlib.Core.Path.{sym, _∙_}
-use mathlib.Core.Logic.{_≢_}
-use Rattle.rules.specs.World.{World, worldOf}
-use Rattle.rules.specs.Effects.{askBook}
-use Rattle.book.proofs.Passes.{book-whole}
-use Rattle.queries.proofs.Asks.{periods-stands}
-use Rattle.queries.proofs.Answered.{periods-refused}
+-- The part of the pair where the questions pass, the empty part where one says no.
+use mathlib.Core.Path.{_≡_, sym, _∙_}
+use Rattle.rules.specs.World.{World}
+use Rattle.rules.specs.Queries.{periodsNumber}
+use Rattle.rules.specs.Answers.{numberOf}
+use Rattle.rules.specs.Whole.{Whole}
+use Rattle.rules.specs.Lent.{Lists, worldIn, lendLinks}
+use Rattle.rules.proofs.Parts.{lengths}
+use Rattle.tables.proofs.Right.{whole-rows}
+use Rattle.queries.proofs.Asks.{periods-asks, periods-passed}
+use Rattle.queries.proofs.Answered.{periods-answered, periods-refused}
+use native.Mathlib.Omega.{arith}
 use borrow.Author.Needs.{needs}
 use Rattle.queries.proofs.periods.Statement.{statement}
 use Rattle.queries.proofs.periods.Tie as tie
 
--- the book as it is lent
-abbrev world : tie.Start → World
-world s = worldOf (s .args .book) (s .args .element-data .now) (s .args .prices .now) (s .args .links .now) (s .args .holders .now)
-    (s .args .states .now) (s .args .readings .now) (s .args .blocks .now) (s .args .lines .now) (s .args .sent .now)
+-- the book as it is lent, and any other tables
+abbrev world : tie.Start → Lists → World
+world s o = worldIn (s .args .book) (lendLinks (s .args .links .now) o)
 
-check-book-requires : tie.Need-check-book-requires
-check-book-requires c κs = search needs
+abbrev start-of : tie.After-ask-pair → tie.Start
+start-of c = search
+
+-- the code's question is the query's
+number-is : (c : tie.After-ask-pair) (o : Lists) → Whole (world (start-of c) o)
+    → numberOf (c .ask-pair .result) ≡ periodsNumber (world (start-of c) o) (start-of c .args .point) (start-of c .args .element)
+number-is c o whole = let a = start-of c .args in c .ask-pair .ensures ∙ periods-asks (world (start-of c) o) whole (a .point) (a .element)
+
+-- it has passed
+abbrev asked-in : tie.Then1 → tie.After-ask-pair
+asked-in c = search
+
+passed : (c : tie.Then1) (o : Lists) → Whole (world (start-of (asked-in c)) o)
+    → periodsNumber (world (start-of (asked-in c)) o) (start-of (asked-in c) .args .point) (start-of (asked-in c) .args .element) ≡ 0
+passed c o whole = sym (number-is (asked-in c) o whole) ∙ sym (c .before .number .ensures) ∙ c .if1 .taken
+
+ask-pair-requires : tie.Need-ask-pair-requires
+ask-pair-requires c κs = search needs
 
 number-requires : tie.Need-number-requires
 number-requires c κs = search needs
 
-periods-within-requires : tie.Need-periods-within-requires
-periods-within-requires c κs = let s = c .before .before .before .before .before .before .before .before .before in
-    book-whole (world s) (sym (c .before .before .check-book .ensures) ∙ sym (c .before .number .ensures) ∙ c .if1 .taken)
+pair-part-requires : tie.Need-pair-part-requires
+pair-part-requires c κs =
+    let start : tie.Start = search in
+    let o = start .pre .0 in
+    let a = start .args in
+    let k = periods-passed (world start o) (a .point) (a .element) (passed c o (start .pre .1)) in
+    let n = lengths (world start o) (k .0) .limited in
+    let i = k .1 .0 in
+    let j = k .1 .1 in
+    let points = n .points in
+    let elements = n .elements in
+    (whole-rows (a .book) (lendLinks (a .links .now) o) (k .0) .links, record { point = omega arith; element = omega arith })
 
 returns : tie.Need-returns
-returns c = search needs
+returns c o whole =
+    let start : tie.Start = search in
+    let found : tie.Then1 = search in
+    c .pair-part .ensures ∙ periods-answered (world start o) (start .args .point) (start .args .element) (passed found o whole)
 
 sub-result : tie.Need-sub-result
 sub-result c = search needs
@@ -38,18 +69,21 @@ part-result-end : tie.Need-part-result-end
 part-result-end c = search needs
 
 returns-2 : tie.Need-returns-2
-returns-2 c =
-    let s = c .before .before .before .before .before .before .before .before .before .before in
-    let n : askBook (world s) 0 ≢ 0 = λ z. c .before .if1 .left (c .before .before .number .ensures ∙ c .before .before .before .check-book .ensures ∙ z) in
-    periods-refused (world s) (s .args .point) (s .args .element) (λ h. n (periods-stands (world s) n (s .args .point) (s .args .element) ∙ h))
+returns-2 c o whole =
+    let start : tie.Start = search in
+    let asked : tie.After-ask-pair = search in
+    let number : tie.After-number = search in
+    let not : tie.Else1 = search in
+    periods-refused (world start o) (start .args .point) (start .args .element)
+    (λ h. not .if1 .left (number .number .ensures ∙ number-is asked o whole ∙ h))
 
 pub periods-spec : {M : Type 1} → statement M
 periods-spec =
     tie.close
     (tie.spec
-    check-book-requires
+    ask-pair-requires
     number-requires
-    periods-within-requires
+    pair-part-requires
     returns
     sub-result
     part-result-start

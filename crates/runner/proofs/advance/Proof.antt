@@ -1,7 +1,7 @@
 -- `advance` meets its contract: the field that was found does what its phase says; each phase has its stage.
 use mathlib.Core.Path.{_≡_, sym, ap, _∙_}
 use mathlib.Core.Bool.{true, false}
-use Rattle.wire.proofs.FieldLaws.{inside-at}
+use Rattle.file.proofs.FieldLaws.{inside-at}
 use Rattle.runner.specs.declared.Advanced.{Advanced}
 use Rattle.runner.specs.Stages.{foundAt, isMore}
 use Rattle.runner.specs.Parts.{lentOf}

@@ -1,5 +1,5 @@
--- `open_tables` meets its contract: where the month and the counts fit, the parts lie within the tables and open as the tables' fronts; else the
--- answer is question 2.
+-- `open_tables` meets its contract: where the month and the counts fit, the parts lie within the tables and open as the tables' fronts;
+-- else the answer is question 2.
 use mathlib.Core.Path.{sym, _∙_}
 use lib.Seq.{length-take-le}
 use Rattle.runner.specs.Parts.{lentOf}

@@ -1,5 +1,5 @@
--- `run` meets its contract: after each turn what was printed and what is still to be printed are what was to be printed at first. Each turn takes
--- bytes away, opens the book or is the last.
+-- `run` meets its contract: after each turn what was printed and what is still to be printed are what was to be printed at first. Each turn
+-- takes bytes away, opens the book or is the last.
 use mathlib.Core.Path.{sym, _∙_}
 use Prim.Native.Nat.{_-_}
 use lib.ListN.{length}

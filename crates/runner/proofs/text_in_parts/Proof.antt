@@ -1,5 +1,5 @@
--- `text_in_parts` meets its contract: the book is well formed, so its parts lie within the tables; a message leaves the counts, so what comes back
--- are the parts of the book afterwards.
+-- `text_in_parts` meets its contract: the book is well formed, so its parts lie within the tables; a message leaves the counts, so what
+-- comes back are the parts of the book afterwards.
 use mathlib.Core.Path.{sym}
 use lib.Seq.{length-take-le}
 use Rattle.runner.specs.Parts.{Lent, lentOf, Fitted}

@@ -2,8 +2,8 @@
 use mathlib.Core.Path.{sym, _∙_}
 use Rattle.rules.specs.World.{openingOf, tablesOf, lineCount}
 use Rattle.rules.proofs.Tests.{both}
-use Rattle.writing.proofs.Asks.{countable}
-use Rattle.writing.proofs.Whole.{recordable-any}
+use Rattle.recording.proofs.Asks.{countable}
+use Rattle.recording.proofs.Whole.{recordable-any}
 use Rattle.settlement.proofs.Applying.{zeros, zeros-room, changed, posted-rules, fits-is, applied, applied-not}
 use native.Mathlib.Omega.{arith}
 use borrow.Author.Needs.{needs}
@@ -11,12 +11,12 @@ use Rattle.settlement.proofs.apply_lines.Statement.{statement}
 use Rattle.settlement.proofs.apply_lines.Tie as tie
 use Rattle.settlement.proofs.apply_lines.Reads as reads
 use Rattle.settlement.proofs.apply_lines.Lts as lts
-use Rattle.ledger.proofs.commit_lines.Reads as commit-lines-reads
+use Rattle.ledger.proofs.lines.commit_lines.Reads as commit-lines-reads
 use Rattle.posting.proofs.post.Reads as post-reads
 use Rattle.settlement.proofs.accepted.Reads as accepted-reads
 use Rattle.settlement.proofs.is_fitting.Reads as is-fitting-reads
 use Rattle.settlement.proofs.refused.Reads as refused-reads
-use Rattle.writing.proofs.write_tables.Reads as write-tables-reads
+use Rattle.recording.proofs.write_tables.Reads as write-tables-reads
 
 slice-aggregate-post : tie.Need-slice-aggregate-post
 slice-aggregate-post c = search needs

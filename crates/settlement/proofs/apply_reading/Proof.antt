@@ -2,7 +2,7 @@
 use mathlib.Core.Path.{refl}
 use Rattle.rules.specs.declared.Body.the-variants.{Reading}
 use Rattle.rules.specs.World.{openingOf, tablesOf}
-use Rattle.writing.proofs.Asks.{reading-asks}
+use Rattle.recording.proofs.Asks.{reading-asks}
 use Rattle.settlement.proofs.ReadingApplied.{lines-asked, reading-applied, reading-refused}
 use native.Mathlib.Omega.{arith}
 use borrow.Author.Needs.{needs}
@@ -13,7 +13,7 @@ use Rattle.settlement.proofs.apply_reading.Lts as lts
 use Rattle.metering.proofs.settle_reading.Reads as settle-reading-reads
 use Rattle.settlement.proofs.accepted.Reads as accepted-reads
 use Rattle.settlement.proofs.refused.Reads as refused-reads
-use Rattle.writing.proofs.write_reading.Reads as write-reading-reads
+use Rattle.recording.proofs.write_reading.Reads as write-reading-reads
 
 settle-reading-requires : tie.Need-settle-reading-requires
 settle-reading-requires c κs =

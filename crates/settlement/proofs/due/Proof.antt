@@ -12,7 +12,7 @@ use Rattle.settlement.proofs.due.Tie as tie
 use Rattle.settlement.proofs.due.Reads as reads
 use Rattle.settlement.proofs.due.Lts as lts
 use Rattle.book.proofs.check_book.Reads as check-book-reads
-use Rattle.messages.proofs.number.Reads as number-reads
+use Rattle.validation.proofs.questions.number.Reads as number-reads
 use Rattle.settlement.proofs.due_within.Reads as due-within-reads
 
 check-book-requires : tie.Need-check-book-requires

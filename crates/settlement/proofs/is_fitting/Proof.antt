@@ -6,8 +6,8 @@ use Rattle.settlement.proofs.is_fitting.Statement.{statement}
 use Rattle.settlement.proofs.is_fitting.Tie as tie
 use Rattle.settlement.proofs.is_fitting.Reads as reads
 use Rattle.settlement.proofs.is_fitting.Lts as lts
-use Rattle.ledger.proofs.lines_fit.Reads as lines-fit-reads
-use Rattle.writing.proofs.rows_fit_after.Reads as rows-fit-after-reads
+use Rattle.ledger.proofs.lines.lines_fit.Reads as lines-fit-reads
+use Rattle.recording.proofs.rows_fit_after.Reads as rows-fit-after-reads
 
 mul-count : tie.Need-mul-count
 mul-count c =

@@ -1,6 +1,6 @@
 -- The lines that are due are found first, and their records are the rules'.
 use Rattle.rules.specs.World.{worldOf}
-use Rattle.rounds.proofs.Sending.{world-of}
+use Rattle.ledger.proofs.Sending.{world-of}
 use Rattle.settlement.proofs.Stepping.{due-numbers}
 use native.Mathlib.Omega.{arith}
 use borrow.Author.Needs.{needs}
@@ -8,7 +8,7 @@ use Rattle.settlement.proofs.put_due.Statement.{statement}
 use Rattle.settlement.proofs.put_due.Tie as tie
 use Rattle.settlement.proofs.put_due.Reads as reads
 use Rattle.settlement.proofs.put_due.Lts as lts
-use Rattle.rounds.proofs.put_records.Reads as put-records-reads
+use Rattle.ledger.proofs.rounds.put_records.Reads as put-records-reads
 use Rattle.settlement.proofs.due.Reads as due-reads
 
 slice-aggregate-due : tie.Need-slice-aggregate-due

@@ -1,7 +1,7 @@
 -- The lines that moved are the rules' records; they are sent and counted where there is room for them.
 use mathlib.Core.Path.{_∙_}
 use borrow.Author.Tests.{le-leb, lt-leb}
-use Rattle.rounds.proofs.Numbers.{few-lines}
+use Rattle.ledger.proofs.Numbers.{few-lines}
 use Rattle.settlement.proofs.Rounding.{sent-records, sent-nothing}
 use native.Mathlib.Omega.{arith}
 use borrow.Author.Needs.{needs}
@@ -9,9 +9,9 @@ use Rattle.settlement.proofs.send.Statement.{statement}
 use Rattle.settlement.proofs.send.Tie as tie
 use Rattle.settlement.proofs.send.Reads as reads
 use Rattle.settlement.proofs.send.Lts as lts
-use Rattle.rounds.proofs.copy_lines.Reads as copy-lines-reads
-use Rattle.rounds.proofs.moved_lines.Reads as moved-lines-reads
-use Rattle.rounds.proofs.next_round.Reads as next-round-reads
+use Rattle.ledger.proofs.rounds.copy_lines.Reads as copy-lines-reads
+use Rattle.ledger.proofs.rounds.moved_lines.Reads as moved-lines-reads
+use Rattle.ledger.proofs.rounds.next_round.Reads as next-round-reads
 use Rattle.settlement.proofs.accepted.Reads as accepted-reads
 use Rattle.settlement.proofs.refused.Reads as refused-reads
 use Rattle.settlement.proofs.with_round.Reads as with-round-reads

@@ -13,7 +13,7 @@ use Rattle.settlement.proofs.take.Tie as tie
 use Rattle.settlement.proofs.take.Reads as reads
 use Rattle.settlement.proofs.take.Lts as lts
 use Rattle.book.proofs.check_book.Reads as check-book-reads
-use Rattle.messages.proofs.number.Reads as number-reads
+use Rattle.validation.proofs.questions.number.Reads as number-reads
 use Rattle.settlement.proofs.refused.Reads as refused-reads
 use Rattle.settlement.proofs.take_within.Reads as take-within-reads
 

@@ -3,10 +3,10 @@ use mathlib.Core.Path.{sym, ap, _∙_}
 use mathlib.Core.Logic.{_≢_}
 use Rattle.rules.specs.World.{worldOf}
 use Rattle.rules.specs.Answers.{numberOf}
-use Rattle.intake.specs.Found.{messageIn}
-use Rattle.messages.specs.Decided.{decided}
-use Rattle.messages.proofs.Whole.{whole-readable, in-ranges}
-use Rattle.rounds.proofs.Sending.{world-of, settled, round-within}
+use Rattle.validation.specs.Found.{foundMessage}
+use Rattle.validation.specs.Decided.{decided}
+use Rattle.validation.proofs.Whole.{whole-readable, in-ranges}
+use Rattle.ledger.proofs.Sending.{world-of, settled, round-within}
 use Rattle.settlement.proofs.Applying.{appliable}
 use Rattle.settlement.proofs.Stepping.{answered-refused, answered-applied, answered-sent, answered-whole, answer-none, answer-refused, passed-ready, is-round}
 use native.Mathlib.Omega.{arith}
@@ -15,9 +15,9 @@ use Rattle.settlement.proofs.take_within.Statement.{statement}
 use Rattle.settlement.proofs.take_within.Tie as tie
 use Rattle.settlement.proofs.take_within.Reads as reads
 use Rattle.settlement.proofs.take_within.Lts as lts
-use Rattle.intake.proofs.understand.Reads as understand-reads
-use Rattle.messages.proofs.decide.Reads as decide-reads
-use Rattle.messages.proofs.number.Reads as number-reads
+use Rattle.validation.proofs.fields.understand.Reads as understand-reads
+use Rattle.validation.proofs.questions.decide.Reads as decide-reads
+use Rattle.validation.proofs.questions.number.Reads as number-reads
 use Rattle.settlement.proofs.apply.Reads as apply-reads
 use Rattle.settlement.proofs.is_round.Reads as is-round-reads
 use Rattle.settlement.proofs.refused.Reads as refused-reads
@@ -40,7 +40,7 @@ returns c =
     let a = c .before .before .before .before .before .before .before .before .before .before .args in
     let h = c .before .before .before .before .before .before .before .before .before .before .pre in
     let w = worldOf (a .book) (a .element-data .now) (a .prices .now) (a .links .now) (a .holders .now) (a .states .now) (a .readings .now) (a .blocks .now) (a .lines .now) (a .sent .now) in
-    let u = sym (c .before .before .before .understand .ensures) ∙ ap messageIn (c .before .enum-told .given .1) in
+    let u = sym (c .before .before .before .understand .ensures) ∙ ap foundMessage (c .before .enum-told .given .1) in
     let e = c .refused .ensures in
     rw (e .1) (answered-refused w (a .fields) (a .room) _ 6 (answer-none w h (a .fields) _ u) (λ z. omega arith) (ap numberOf (e .0)) (e .2), h)
 
@@ -49,7 +49,7 @@ decide-requires c κs =
     let a = c .before .before .before .before .before .before .before .before .before .before .before .before .before .before .before .args in
     let h = c .before .before .before .before .before .before .before .before .before .before .before .before .before .before .before .pre in
     let w = worldOf (a .book) (a .element-data .now) (a .prices .now) (a .links .now) (a .holders .now) (a .states .now) (a .readings .now) (a .blocks .now) (a .lines .now) (a .sent .now) in
-    (whole-readable w h, in-ranges (a .book .suppliers) (a .fields) _ (sym (c .before .before .before .before .before .before .before .before .understand .ensures) ∙ ap messageIn (c .before .before .before .before .before .before .understood .given .1)))
+    (whole-readable w h, in-ranges (a .book .suppliers) (a .fields) _ (sym (c .before .before .before .before .before .before .before .before .understand .ensures) ∙ ap foundMessage (c .before .before .before .before .before .before .understood .given .1)))
 
 number-requires : tie.Need-number-requires
 number-requires c κs = search needs
@@ -70,7 +70,7 @@ apply-requires c κs =
     let a = c .before .before .before .before .before .before .before .before .before .before .before .before .before .before .before .before .before .before .before .before .before .before .before .before .before .before .args in
     let h = c .before .before .before .before .before .before .before .before .before .before .before .before .before .before .before .before .before .before .before .before .before .before .before .before .before .before .pre in
     let w = worldOf (a .book) (a .element-data .now) (a .prices .now) (a .links .now) (a .holders .now) (a .states .now) (a .readings .now) (a .blocks .now) (a .lines .now) (a .sent .now) in
-    let u = sym (c .before .before .before .before .before .before .before .before .before .before .before .before .before .before .before .before .before .before .before .understand .ensures) ∙ ap messageIn (c .before .before .before .before .before .before .before .before .before .before .before .before .before .before .before .before .before .understood .given .1) in
+    let u = sym (c .before .before .before .before .before .before .before .before .before .before .before .before .before .before .before .before .before .before .before .understand .ensures) ∙ ap foundMessage (c .before .before .before .before .before .before .before .before .before .before .before .before .before .before .before .before .before .understood .given .1) in
     let d = sym (c .before .before .before .before .before .before .before .before .before .before .decide .ensures) ∙ sym (c .before .before .before .before .before .before .before .before .before .number .ensures) ∙ c .before .before .before .before .before .before .before .before .if1 .taken in
     appliable w h _ (passed-ready w h (a .fields) 0 _ u d)
 
@@ -103,7 +103,7 @@ returns-2 c =
     let a = c .before .before .before .before .before .before .before .before .before .before .before .before .before .before .before .before .before .before .before .before .before .before .before .before .args in
     let h = c .before .before .before .before .before .before .before .before .before .before .before .before .before .before .before .before .before .before .before .before .before .before .before .before .pre in
     let w = worldOf (a .book) (a .element-data .now) (a .prices .now) (a .links .now) (a .holders .now) (a .states .now) (a .readings .now) (a .blocks .now) (a .lines .now) (a .sent .now) in
-    let u = sym (c .before .before .before .before .before .before .before .before .before .before .before .before .before .before .before .before .before .understand .ensures) ∙ ap messageIn (c .before .before .before .before .before .before .before .before .before .before .before .before .before .before .before .understood .given .1) in
+    let u = sym (c .before .before .before .before .before .before .before .before .before .before .before .before .before .before .before .before .before .understand .ensures) ∙ ap foundMessage (c .before .before .before .before .before .before .before .before .before .before .before .before .before .before .before .understood .given .1) in
     let d = sym (c .before .before .before .before .before .before .before .before .decide .ensures) ∙ sym (c .before .before .before .before .before .before .before .number .ensures) ∙ c .before .before .before .before .before .before .if1 .taken in
     let o = is-round _ (sym (c .before .before .before .before .before .is-round .ensures) ∙ c .before .before .before .before .if2 .taken) in
     let g = answered-sent (a .book) (a .element-data .now) (a .prices .now) (a .links .now) (a .holders .now) (a .states .now) (a .readings .now) (a .blocks .now) (a .lines .now) (a .sent .now) _ _ (a .room) h (a .fields) _ u d o (c .before .send .ensures w (world-of (a .book) (a .element-data .now) (a .prices .now) (a .links .now) (a .holders .now) (a .states .now) (a .readings .now) (a .blocks .now) (a .lines .now) (a .sent .now))) in
@@ -132,7 +132,7 @@ returns-3 c =
     let a = c .before .before .before .before .before .before .before .before .before .before .before .before .before .before .before .before .before .before .before .before .before .before .before .before .before .before .before .before .before .before .before .before .before .before .before .before .before .before .args in
     let h = c .before .before .before .before .before .before .before .before .before .before .before .before .before .before .before .before .before .before .before .before .before .before .before .before .before .before .before .before .before .before .before .before .before .before .before .before .before .before .pre in
     let w = worldOf (a .book) (a .element-data .now) (a .prices .now) (a .links .now) (a .holders .now) (a .states .now) (a .readings .now) (a .blocks .now) (a .lines .now) (a .sent .now) in
-    let u = sym (c .before .before .before .before .before .before .before .before .before .before .before .before .before .before .before .before .before .before .before .before .before .before .before .before .before .before .before .before .before .before .before .understand .ensures) ∙ ap messageIn (c .before .before .before .before .before .before .before .before .before .before .before .before .before .before .before .before .before .before .before .before .before .before .before .before .before .before .before .before .before .understood .given .1) in
+    let u = sym (c .before .before .before .before .before .before .before .before .before .before .before .before .before .before .before .before .before .before .before .before .before .before .before .before .before .before .before .before .before .before .before .understand .ensures) ∙ ap foundMessage (c .before .before .before .before .before .before .before .before .before .before .before .before .before .before .before .before .before .before .before .before .before .before .before .before .before .before .before .before .before .understood .given .1) in
     let d = sym (c .before .before .before .before .before .before .before .before .before .before .before .before .before .before .before .before .before .before .before .before .before .before .decide .ensures) ∙ sym (c .before .before .before .before .before .before .before .before .before .before .before .before .before .before .before .before .before .before .before .before .before .number .ensures) ∙ c .before .before .before .before .before .before .before .before .before .before .before .before .before .before .before .before .before .before .before .before .if1 .taken in
     let o = sym (c .before .before .before .before .before .before .before .before .before .before .before .before .before .before .before .before .before .before .before .is-round .ensures) ∙ c .before .before .before .before .before .before .before .before .before .before .before .before .before .before .before .before .before .before .if2 .left in
     let g = answered-applied w _ h (a .fields) (a .room) _ _ u d o (c .before .before .before .before .before .before .before .before .before .before .before .apply .ensures .0 (a .sent .now)) (c .before .before .before .before .before .before .before .before .before .before .before .apply .ensures .1) in
@@ -158,7 +158,7 @@ returns-4 c =
     let a = c .before .before .before .before .before .before .before .before .before .before .before .before .before .before .before .before .before .before .before .args in
     let h = c .before .before .before .before .before .before .before .before .before .before .before .before .before .before .before .before .before .before .before .pre in
     let w = worldOf (a .book) (a .element-data .now) (a .prices .now) (a .links .now) (a .holders .now) (a .states .now) (a .readings .now) (a .blocks .now) (a .lines .now) (a .sent .now) in
-    let u = sym (c .before .before .before .before .before .before .before .before .before .before .before .before .understand .ensures) ∙ ap messageIn (c .before .before .before .before .before .before .before .before .before .before .understood .given .1) in
+    let u = sym (c .before .before .before .before .before .before .before .before .before .before .before .before .understand .ensures) ∙ ap foundMessage (c .before .before .before .before .before .before .before .before .before .before .understood .given .1) in
     let e = c .refused2 .ensures in
     let n : decided (w .opening) (w .position .tables) _ 0 ≢ 0 = λ z. c .before .if1 .left (c .before .before .number .ensures ∙ c .before .before .before .decide .ensures ∙ z) in
     rw (e .1) (answered-refused w (a .fields) (a .room) _ _ (answer-refused w h (a .fields) _ _ u n) n (ap numberOf (e .0) ∙ c .before .before .before .decide .ensures) (e .2), h)

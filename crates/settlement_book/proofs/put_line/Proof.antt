@@ -3,7 +3,7 @@ use native.Mathlib.Omega.{arith}
 use mathlib.Core.Path.{refl, sym, ap, _∙_}
 use Rattle.rules.specs.Queries.{lineRefused}
 use Rattle.rules.specs.Answers.{lineResult}
-use Rattle.integers.specs.Integers.{pos-fits, back, cast-is}
+use Rattle.integers.proofs.Integers.{pos-fits, back, cast-is}
 use Rattle.settlement_book.specs.Numbers.{lineAfter}
 use Rattle.settlement_book.proofs.Lists.{three-set}
 use borrow.Author.Needs.{needs}

@@ -28,19 +28,27 @@ first-of-requires c κs = search needs
 returns : tie.Need-returns
 unfolding apart
 returns c =
-    let a = c .before .before .before .before .before .before .before .args in
+    let start : tie.Start = search in
+    let a = start .args in
     let h : ltb (a .word) (a .next) ≡ true = omega (arith, tests) in
+    let after-of-pair : tie.After-of-pair = search in
+    let after-element-of : tie.After-element-of = search in
+    let after-point-of : tie.After-point-of = search in
     let o : ofPair (periodPoint (a .next)) (periodElement (a .next)) (a .word) ≡ true
-    = rw (c .before .before .before .before .before .point-of .ensures, c .before .before .before .before .element-of .ensures) at (sym (c .before .before .before .of-pair .ensures) ∙ c .before .before .if2 .taken) in
+    = rw (after-point-of .point-of .ensures, after-element-of .element-of .ensures)
+    at (sym (after-of-pair .of-pair .ensures) ∙ c .before .before .if2 .taken) in
     rw (h, o, c .first-of .ensures, c .before .end-of .ensures)
 
 returns-2 : tie.Need-returns-2
 unfolding apart
 returns-2 c =
-    let a = c .before .before .before .before .before .args in
+    let start : tie.Start = search in
+    let a = start .args in
     let h : ltb (a .word) (a .next) ≡ true = omega (arith, tests) in
+    let after-point-of : tie.After-point-of = search in
     let o : ofPair (periodPoint (a .next)) (periodElement (a .next)) (a .word) ≡ false
-    = rw (c .before .before .before .point-of .ensures, c .before .before .element-of .ensures) at (sym (c .before .of-pair .ensures) ∙ c .if2 .left) in
+    = rw (after-point-of .point-of .ensures, c .before .before .element-of .ensures)
+    at (sym (c .before .of-pair .ensures) ∙ c .if2 .left) in
     rw (h, o)
 
 returns-3 : tie.Need-returns-3

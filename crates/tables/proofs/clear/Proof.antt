@@ -1,22 +1,20 @@
 -- `tables::clear` meets its contract: the words before place i are 0, the others as they were.
-use Prim.Native.Nat.{_-_, _≤_}
-use mathlib.Core.Path.{_≡_, refl}
-use mathlib.Core.List.{_++_, append-nil}
-use lib.ListN.{length, drop, replicate, length-set, drop-of-length-le}
+use Prim.Native.Nat.{_-_}
+use lib.ListN.{length}
 use native.Mathlib.Omega.{arith}
 use borrow.Author.Needs.{needs}
-use Rattle.tables.proofs.Parts.{cleared-more}
+use Rattle.tables.proofs.Cleared.{Cleared, cleared-none, cleared-more, cleared-all}
 use Rattle.tables.proofs.clear.Statement.{statement}
 use Rattle.tables.proofs.clear.Tie as tie
 
 abbrev Inv-loop : tie.InvT-loop
-Inv-loop part₀ i₀ part i = (i ≤ length part₀) × (length part ≡ length part₀) × (part ≡ replicate i 0 ++ drop i part₀)
+Inv-loop part₀ i₀ part i = Cleared 0 part₀ part i
 
 abbrev μ-loop : tie.MeasureT-loop
 μ-loop part₀ i₀ part i = length part₀ - i
 
 loop-holds : tie.Need-loop-holds Inv-loop μ-loop
-loop-holds c = (omega arith, refl, refl)
+loop-holds c = cleared-none 0 (c .args .part .now)
 
 mul-part : tie.Need-mul-part Inv-loop μ-loop
 mul-part c = search needs
@@ -31,20 +29,13 @@ loop-less : tie.Need-loop-less Inv-loop μ-loop
 loop-less c = search needs
 
 loop-again : tie.Need-loop-again Inv-loop μ-loop
-loop-again c =
-    let l = c .before .loop in
-    (omega arith, simp length-set (l .inv .1), rw (l .inv .2) (cleared-more (l .i) (c .before .before .args .part .now) (omega arith)))
+loop-again c = let l = c .before .loop in cleared-more 0 (c .before .before .args .part .now) (l .part) (l .i) (l .inv) (omega arith)
 
 same-length : tie.Need-same-length Inv-loop μ-loop
 same-length c = search needs
 
 returns : tie.Need-returns Inv-loop μ-loop
-returns c =
-    let l = c .before .loop in
-    let d = c .before .before .args .part .now in
-    let e : l .i ≡ length d = omega arith in
-    let h : length d ≤ l .i = omega arith in
-    rw (l .inv .2, drop-of-length-le d h, append-nil, e)
+returns c = let l = c .before .loop in cleared-all 0 (c .before .before .args .part .now) (l .part) (l .i) (l .inv) (omega arith)
 
 pub clear-spec : {M : Type 1} → statement M
 clear-spec =

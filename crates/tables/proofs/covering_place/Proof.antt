@@ -1,15 +1,13 @@
 -- `tables::covering_place` meets its contract: only the last row that starts by the day can cover it.
 use Prim.Native.Nat.{_+_}
 use mathlib.Core.Bool.{true, false}
-use mathlib.Core.Path.{_≡_, sym, _∙_}
-use lib.ListN.{take}
-use lib.Seq.{length-take-le}
+use mathlib.Core.Path.{sym, _∙_}
 use native.Mathlib.Omega.{arith}
 use borrow.Author.Needs.{needs}
 use Rattle.rules.specs.Rows.{packPeriod}
-use Rattle.tables.specs.Search.{rowsBelow}
-use Rattle.tables.proofs.Days.{covering-found, covering-none}
-use Rattle.tables.proofs.Order.{run-rising}
+use Rattle.tables.specs.Search.{RowPlace}
+use Rattle.tables.proofs.Order.{link-order}
+use Rattle.tables.proofs.Days.{covering-missed, covering-found}
 use Rattle.tables.proofs.covering_place.Statement.{statement}
 use Rattle.tables.proofs.covering_place.Tie as tie
 
@@ -20,21 +18,21 @@ pack-period-requires : tie.Need-pack-period-requires
 pack-period-requires c κs = search needs
 
 place-requires : tie.Need-place-requires
-place-requires c κs =
-    let s = c .before .before in
-    record { fits = s .pre .0 .fits; order = run-rising (s .pre .0 .run) }
+place-requires c κs = link-order (c .before .before .pre .0)
+
+-- the place, of the word of the next day
+abbrev start : tie.After-place → tie.Start
+start c = search
+
+found : (c : tie.After-place) →
+    let a = start c .args in RowPlace (a .table .now) (a .used) (packPeriod (a .point) (a .element) (a .day + 1) 0 0) (c .place .result)
+found c = rw (c .before .pack-period .ensures) at (c .place .ensures)
 
 returns : tie.Need-returns
 returns c =
-    let s = c .before .before .before .before in
+    let s = start (c .before) in
     let a = s .args in
-    let p = c .before .place .ensures in
-    let w = c .before .before .pack-period .ensures in
-    let z : rowsBelow (packPeriod (a .point) (a .element) (a .day + 1) 0 0) (take (a .used) (a .table .now)) ≡ 0 = rw (p .is, w) at (c .if1 .taken) in
-    record {
-      is = sym (covering-none (a .point) (a .element) (a .day) (s .pre .0 .run) z ∙ length-take-le (a .used) (a .table .now) (s .pre .0 .fits));
-      within = omega arith;
-    }
+    covering-missed (a .point) (a .element) (a .day) (s .pre .0) (found (c .before)) (c .if1 .taken)
 
 sub-last : tie.Need-sub-last
 sub-last c = search needs
@@ -50,18 +48,18 @@ covers-day-requires c κs = search needs
 
 returns-2 : tie.Need-returns-2
 returns-2 c =
-    let s = c .before .before .before .before .before .before .before in
+    let placed : tie.After-place = search in
+    let s = start placed in
     let a = s .args in
-    let p = c .before .before .before .before .place .ensures in
-    covering-found (a .point) (a .element) (a .day) (a .table .now) (a .used) _ (s .pre .0 .fits) (s .pre .0 .run) (rw (c .before .before .before .before .before .pack-period .ensures) at (p .is)) (omega arith) (p .within) true
+    covering-found (a .point) (a .element) (a .day) (s .pre .0) (found placed) (omega arith) true
     (sym (c .before .covers-day .ensures) ∙ c .if2 .taken)
 
 returns-3 : tie.Need-returns-3
 returns-3 c =
-    let s = c .before .before .before .before .before .before .before in
+    let placed : tie.After-place = search in
+    let s = start placed in
     let a = s .args in
-    let p = c .before .before .before .before .place .ensures in
-    covering-found (a .point) (a .element) (a .day) (a .table .now) (a .used) _ (s .pre .0 .fits) (s .pre .0 .run) (rw (c .before .before .before .before .before .pack-period .ensures) at (p .is)) (omega arith) (p .within) false
+    covering-found (a .point) (a .element) (a .day) (s .pre .0) (found placed) (omega arith) false
     (sym (c .before .covers-day .ensures) ∙ c .if2 .left)
 
 pub covering-place-spec : {M : Type 1} → statement M

@@ -19,17 +19,18 @@ shared-slice-read-result c = search needs
 returns : tie.Need-returns
 unfolding coveringRow
 returns c =
-    let a = c .before .before .before .before .args in
+    let start : tie.Start = search in
+    let a = start .args in
     let q = c .before .before .covering-place .ensures in
     rw (← q .is, getD-take (a .used) (a .table .now) (c .before .before .covering-place .result) 0 (omega arith))
 
 returns-2 : tie.Need-returns-2
 unfolding coveringRow
 returns-2 c =
-    let s = c .before .before .before in
-    let a = s .args in
+    let start : tie.Start = search in
+    let a = start .args in
     let q = c .before .covering-place .ensures in
-    let l = length-take-le (a .used) (a .table .now) (s .pre .0 .fits) in
+    let l = length-take-le (a .used) (a .table .now) (start .pre .0 .fits) in
     rw (← q .is, List·getD-eq-default (take (a .used) (a .table .now)) 0 {n = c .before .covering-place .result} (omega arith))
 
 pub covering-row-spec : {M : Type 1} → statement M

@@ -21,7 +21,8 @@ end-of-requires c κs = search needs
 returns : tie.Need-returns
 unfolding covers
 returns c =
-    let a = c .before .before .before .before .before .args in
+    let start : tie.Start = search in
+    let a = start .args in
     let o : ofPair (a .point) (a .element) (a .word) ≡ true = cc in
     let h : leb (periodFirst (a .word)) (a .day) ≡ true = omega (arith, tests) in
     rw (o, h, c .end-of .ensures)
@@ -29,7 +30,8 @@ returns c =
 returns-2 : tie.Need-returns-2
 unfolding covers
 returns-2 c =
-    let a = c .before .before .before .before .args in
+    let start : tie.Start = search in
+    let a = start .args in
     let o : ofPair (a .point) (a .element) (a .word) ≡ true = cc in
     let h : leb (periodFirst (a .word)) (a .day) ≡ false = omega (arith, tests) in
     rw (o, h)

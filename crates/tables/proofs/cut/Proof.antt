@@ -24,12 +24,18 @@ quantity-of-requires : tie.Need-quantity-of-requires
 quantity-of-requires c κs = search needs
 
 pack-period-requires : tie.Need-pack-period-requires
-pack-period-requires c κs = let a = c .before .before .before .before .before .before .args in let f = first-lt (a .word) in let q = quantity-lt (a .word) in (omega arith, omega arith, omega arith, omega arith, omega arith)
+pack-period-requires c κs =
+    let start : tie.Start = search in
+    let a = start .args in
+    let f = first-lt (a .word) in
+    let q = quantity-lt (a .word) in
+    (omega arith, omega arith, omega arith, omega arith, omega arith)
 
 returns : tie.Need-returns
 unfolding cutRow
 returns c =
-    let a = c .before .before .before .before .before .before .before .args in
+    let start : tie.Start = search in
+    let a = start .args in
     let o : ofPair (a .point) (a .element) (a .word) ≡ true = cc in
     let l : ltb (a .day) (periodEnd (a .word)) ≡ true = omega (arith, tests) in
     rw (o, l, c .pack-period .ensures, c .before .before .first-of .ensures, c .before .quantity-of .ensures)
@@ -37,7 +43,8 @@ returns c =
 returns-2 : tie.Need-returns-2
 unfolding cutRow
 returns-2 c =
-    let a = c .before .before .before .before .args in
+    let start : tie.Start = search in
+    let a = start .args in
     let o : ofPair (a .point) (a .element) (a .word) ≡ true = cc in
     let l : ltb (a .day) (periodEnd (a .word)) ≡ false = omega (arith, tests) in
     rw (o, l)

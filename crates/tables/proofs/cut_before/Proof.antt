@@ -31,7 +31,8 @@ same-length c = search needs
 returns : tie.Need-returns
 unfolding cutBefore
 returns c =
-    let a = c .before .before .before .before .args in
+    let start : tie.Start = search in
+    let a = start .args in
     let z : a .at ≡ suc (a .at - 1) = omega arith in
     rw (c .cut .ensures) (ap (λ (i : ℕ). cutBefore (a .point) (a .element) (a .day) i (a .table .now)) (sym z))
 

@@ -15,12 +15,17 @@ returns c = let a = c .before .args in let h : ltb (a .first) (a .end) ≡ false
 
 returns-2 : tie.Need-returns-2
 unfolding daysRight
-returns-2 c = let a = c .before .before .args in let h : ltb (a .first) (a .end) ≡ true = omega (arith, tests) in let k : leb (a .end) 36525 ≡ false = omega (arith, tests) in rw (h, k)
+returns-2 c =
+    let a = c .before .before .args in
+    let h : ltb (a .first) (a .end) ≡ true = omega (arith, tests) in
+    let k : leb (a .end) 36525 ≡ false = omega (arith, tests) in
+    rw (h, k)
 
 returns-3 : tie.Need-returns-3
 unfolding daysRight within
 returns-3 c =
-    let a = c .before .before .before .args in
+    let start : tie.Start = search in
+    let a = start .args in
     let h : ltb (a .first) (a .end) ≡ true = omega (arith, tests) in
     let k : leb (a .end) 36525 ≡ true = omega (arith, tests) in
     let m : leb 1 (a .quantity) ≡ false = omega (arith, tests) in
@@ -29,7 +34,8 @@ returns-3 c =
 returns-4 : tie.Need-returns-4
 unfolding daysRight within
 returns-4 c =
-    let a = c .before .before .before .args in
+    let start : tie.Start = search in
+    let a = start .args in
     let h : ltb (a .first) (a .end) ≡ true = omega (arith, tests) in
     let k : leb (a .end) 36525 ≡ true = omega (arith, tests) in
     let m : leb 1 (a .quantity) ≡ true = omega (arith, tests) in

@@ -15,9 +15,10 @@ same-length c = search needs
 
 returns : tie.Need-returns
 returns c =
-    let s = c .before .before .before .before .before .before .before in
-    let p = c .before .before .before .before .place .ensures in
-    rw (c .before .before .insert-at .ensures, p .is, insert-put (s .args .word) (s .pre .1 .0 .order))
+    let start : tie.Start = search in
+    let after-place : tie.After-place = search in
+    let p = after-place .place .ensures in
+    rw (c .before .before .insert-at .ensures, p .is, insert-put (start .args .word) (start .pre .1 .0 .order))
 
 pub insert-spec : {M : Type 1} → statement M
 insert-spec = tie.close (tie.spec place-requires insert-at-requires same-length returns)

@@ -28,9 +28,10 @@ same-length c = search needs
 
 returns : tie.Need-returns
 returns c =
-    let s = c .before .before .before .before .before in
-    let a = s .args in
-    rw (c .before .before .shift-down .ensures) (table-put (a .table .now) (a .used) (s .pre .0) (a .at) (a .word) (omega arith) (omega arith))
+    let start : tie.Start = search in
+    let a = start .args in
+    rw (c .before .before .shift-down .ensures)
+    (table-put (a .table .now) (a .used) (start .pre .0) (a .at) (a .word) (omega arith) (omega arith))
 
 pub insert-at-spec : {M : Type 1} → statement M
 insert-at-spec =

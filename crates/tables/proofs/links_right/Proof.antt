@@ -7,13 +7,14 @@ use native.Mathlib.Omega.{arith}
 use borrow.Author.Needs.{needs}
 use Rattle.rules.specs.World.{openingOf}
 use Rattle.rules.specs.WellFormed.{apart, periodRight, linksRight}
-use Rattle.tables.specs.Tests.{fitsAt}
+use Rattle.tables.specs.Tests.{rowFitsAt}
 use Rattle.tables.proofs.Right.{table-rest, table-not, one-more}
 use Rattle.tables.proofs.links_right.Statement.{statement}
 use Rattle.tables.proofs.links_right.Tie as tie
 
 abbrev Inv-loop : tie.InvT-loop
-Inv-loop book element-data table used i₀ i = (i ≤ used) × ((k : ℕ) → k < i → fitsAt apart (periodRight (openingOf book element-data [])) table k ≡ true)
+Inv-loop book element-data table used i₀ i =
+    (i ≤ used) × ((k : ℕ) → k < i → rowFitsAt apart (periodRight (openingOf book element-data [])) table k ≡ true)
 
 abbrev μ-loop : tie.MeasureT-loop
 μ-loop book element-data table used i₀ i = used - i
@@ -32,17 +33,24 @@ loop-less c = search needs
 
 loop-again : tie.Need-loop-again Inv-loop μ-loop
 loop-again c =
-    let l = c .before .before .before .loop in
-    let a = c .before .before .before .before .before .before .args in
-    (omega arith, one-more (fitsAt apart (periodRight (openingOf (a .book) (a .element-data .now) [])) (a .table .now)) (l .i) (l .inv .1) (sym (c .before .period-fits .ensures) ∙ c .if1 .taken))
+    let at-loop : tie.At-loop Inv-loop μ-loop = search in
+    let start : tie.Start Inv-loop μ-loop = search in
+    let l = at-loop .loop in
+    let a = start .args in
+    let right = periodRight (openingOf (a .book) (a .element-data .now) []) in
+    let fits = sym (c .before .period-fits .ensures) ∙ c .if1 .taken in
+    (omega arith, one-more (rowFitsAt apart right (a .table .now)) (l .i) (l .inv .1) fits)
 
 returns : tie.Need-returns Inv-loop μ-loop
 unfolding linksRight
 returns c =
-    let l = c .before .before .before .loop in
-    let s = c .before .before .before .before .before .before in
-    let a = s .args in
-    table-not apart (periodRight (openingOf (a .book) (a .element-data .now) [])) (a .table .now) (a .used) (s .pre .1) (l .i) (omega arith) (sym (c .before .period-fits .ensures) ∙ c .if1 .left)
+    let at-loop : tie.At-loop Inv-loop μ-loop = search in
+    let start : tie.Start Inv-loop μ-loop = search in
+    let l = at-loop .loop in
+    let a = start .args in
+    let right = periodRight (openingOf (a .book) (a .element-data .now) []) in
+    let fits = sym (c .before .period-fits .ensures) ∙ c .if1 .left in
+    table-not apart right (a .table .now) (a .used) (start .pre .1) (l .i) (omega arith) fits
 
 zeros-behind-requires : tie.Need-zeros-behind-requires Inv-loop μ-loop
 zeros-behind-requires c κs = search needs
@@ -51,9 +59,11 @@ returns-2 : tie.Need-returns-2 Inv-loop μ-loop
 unfolding linksRight
 returns-2 c =
     let l = c .before .before .loop in
-    let s = c .before .before .before .before .before in
-    let a = s .args in
-    c .zeros-behind .ensures ∙ table-rest apart (periodRight (openingOf (a .book) (a .element-data .now) [])) (a .table .now) (a .used) (s .pre .1) (λ k h. l .inv .1 k (omega arith))
+    let start : tie.Start Inv-loop μ-loop = search in
+    let a = start .args in
+    let right = periodRight (openingOf (a .book) (a .element-data .now) []) in
+    c .zeros-behind .ensures
+    ∙ table-rest apart right (a .table .now) (a .used) (start .pre .1) (λ k h. l .inv .1 k (omega arith))
 
 pub links-right-spec : {M : Type 1} → statement M
 links-right-spec =

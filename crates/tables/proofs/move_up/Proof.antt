@@ -43,14 +43,20 @@ loop-less c = search needs
 loop-again : tie.Need-loop-again Inv-loop μ-loop
 loop-again c =
     let l = c .before .before .loop in
-    let a = c .before .before .before .args in
-    (omega arith, omega arith, simp length-set (l .inv .2), rw (l .inv .3, l .inv .0) (moved-more (a .gap) (a .tail .now) (l .i) (omega arith)))
+    let start : tie.Start Inv-loop μ-loop = search in
+    let a = start .args in
+    let more = moved-more (a .gap) (a .tail .now) (l .i) (omega arith) in
+    (omega arith, omega arith, simp length-set (l .inv .2), rw (l .inv .3, l .inv .0) more)
 
 same-length : tie.Need-same-length Inv-loop μ-loop
 same-length c = search needs
 
 returns : tie.Need-returns Inv-loop μ-loop
-returns c = let l = c .before .loop in let a = c .before .before .args in let e : l .i ≡ length (a .tail .now) - a .gap = omega arith in rw (l .inv .3, e)
+returns c =
+    let l = c .before .loop in
+    let a = c .before .before .args in
+    let e : l .i ≡ length (a .tail .now) - a .gap = omega arith in
+    rw (l .inv .3, e)
 
 pub move-up-spec : {M : Type 1} → statement M
 move-up-spec =

@@ -18,7 +18,8 @@ element-of-requires c κs = search needs
 returns : tie.Need-returns
 unfolding ofPair
 returns c =
-    let a = c .before .before .before .args in
+    let start : tie.Start = search in
+    let a = start .args in
     let h : eqb (periodPoint (a .word)) (a .point) ≡ true = omega (arith, tests) in
     rw (h, c .element-of .ensures)
 

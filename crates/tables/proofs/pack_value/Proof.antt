@@ -2,21 +2,21 @@
 use native.Mathlib.Omega.{arith}
 use borrow.Author.Needs.{needs}
 use Rattle.rules.specs.Rows.{packValue}
-use Rattle.tables.proofs.Values.{point-small, word-small, key-small}
+use Rattle.tables.proofs.Values.{point-small, word-small}
 use Rattle.tables.proofs.pack_value.Statement.{statement}
 use Rattle.tables.proofs.pack_value.Tie as tie
 
 mul-result : tie.Need-mul-result
-mul-result c = let a = c .args in let h = point-small (a .size) (a .point) (a .first) (a .value) (c .pre .0) (omega arith) (omega arith) in omega arith
+mul-result c = let h = point-small (c .pre .0) in omega arith
 
 add-result : tie.Need-add-result
-add-result c = let a = c .args in let h = point-small (a .size) (a .point) (a .first) (a .value) (c .pre .0) (omega arith) (omega arith) in omega arith
+add-result c = let h = point-small (c .pre .0) in omega arith
 
 mul-result-2 : tie.Need-mul-result-2
-mul-result-2 c = let a = c .args in let h = key-small (a .size) (a .point) (a .first) (a .value) (c .pre .0) (omega arith) (omega arith) in omega arith
+mul-result-2 c = let h = word-small (c .pre .0) (c .pre .1 .0) (c .pre .1 .1) in omega arith
 
 add-result-2 : tie.Need-add-result-2
-add-result-2 c = let a = c .args in let h = word-small (a .size) (a .point) (a .first) (a .value) (c .pre .0) (omega arith) (omega arith) in omega arith
+add-result-2 c = let h = word-small (c .pre .0) (c .pre .1 .0) (c .pre .1 .1) in omega arith
 
 returns : tie.Need-returns
 unfolding packValue

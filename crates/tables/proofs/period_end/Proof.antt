@@ -14,8 +14,10 @@ end-of-requires c κs = search needs
 
 returns : tie.Need-returns
 returns c =
-    let a = c .before .before .before .args in
-    rw (c .end-of .ensures, c .before .covering-row .ensures) (sym (end-covering (a .point) (a .element) (a .day) (take (a .used) (a .table .now))))
+    let start : tie.Start = search in
+    let a = start .args in
+    rw (c .end-of .ensures, c .before .covering-row .ensures)
+    (sym (end-covering (a .point) (a .element) (a .day) (take (a .used) (a .table .now))))
 
 pub period-end-spec : {M : Type 1} → statement M
 period-end-spec = tie.close (tie.spec covering-row-requires end-of-requires returns)

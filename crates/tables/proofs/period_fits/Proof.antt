@@ -1,15 +1,11 @@
 -- `tables::period_fits` meets its contract: the row by itself, and the one before it where there is one.
 use mathlib.Core.Path.{_≡_, sym, _∙_}
 use mathlib.Core.Bool.{true, false}
-use mathlib.Core.List.{[]}
 use lib.Dec.{eqb}
-use lib.ListN.{getD}
 use native.Mathlib.Omega.{arith}
 use borrow.Author.Needs.{needs}
 use Rattle.rules.proofs.Tests.{tests}
-use Rattle.rules.specs.World.{openingOf}
-use Rattle.rules.specs.WellFormed.{periodRight}
-use Rattle.tables.specs.Tests.{fitsAt}
+use Rattle.tables.specs.Tests.{rowFitsAt}
 use Rattle.tables.proofs.period_fits.Statement.{statement}
 use Rattle.tables.proofs.period_fits.Tie as tie
 
@@ -23,10 +19,11 @@ period-right-requires : tie.Need-period-right-requires
 period-right-requires c κs = search needs
 
 returns : tie.Need-returns
-unfolding fitsAt
+unfolding rowFitsAt
 returns c =
-    let a = c .before .before .before .before .before .before .args in
-    let r : periodRight (openingOf (a .book) (a .element-data .now) []) (getD (a .table .now) (a .i) 0) ≡ true = sym (c .before .before .period-right .ensures) ∙ c .before .if1 .taken in
+    let start : tie.Start = search in
+    let a = start .args in
+    let r = sym (c .before .before .period-right .ensures) ∙ c .before .if1 .taken in
     let z : eqb (a .i) 0 ≡ true = omega (arith, tests) in
     rw (r, z)
 
@@ -43,18 +40,22 @@ are-apart-requires : tie.Need-are-apart-requires
 are-apart-requires c κs = search needs
 
 returns-2 : tie.Need-returns-2
-unfolding fitsAt
+unfolding rowFitsAt
 returns-2 c =
-    let a = c .before .before .before .before .before .before .before .before .args in
-    let r : periodRight (openingOf (a .book) (a .element-data .now) []) (getD (a .table .now) (a .i) 0) ≡ true = sym (c .before .before .before .before .period-right .ensures) ∙ c .before .before .before .if1 .taken in
+    let start : tie.Start = search in
+    let a = start .args in
+    let then1 : tie.Then1 = search in
+    let after-period-right : tie.After-period-right = search in
+    let r = sym (after-period-right .period-right .ensures) ∙ then1 .if1 .taken in
     let z : eqb (a .i) 0 ≡ false = omega (arith, tests) in
     rw (r, z, c .are-apart .ensures)
 
 returns-3 : tie.Need-returns-3
-unfolding fitsAt
+unfolding rowFitsAt
 returns-3 c =
-    let a = c .before .before .before .before .before .args in
-    let r : periodRight (openingOf (a .book) (a .element-data .now) []) (getD (a .table .now) (a .i) 0) ≡ false = sym (c .before .period-right .ensures) ∙ c .if1 .left in
+    let start : tie.Start = search in
+    let a = start .args in
+    let r = sym (c .before .period-right .ensures) ∙ c .if1 .left in
     rw r
 
 pub period-fits-spec : {M : Type 1} → statement M

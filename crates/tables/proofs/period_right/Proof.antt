@@ -31,13 +31,15 @@ point-of-requires c κs = search needs
 
 returns : tie.Need-returns
 returns c =
-    let a = c .before .before .before .before .before .before .before .before .args in
+    let start : tie.Start = search in
+    let a = start .args in
     let p : ltb (periodPoint (a .word)) (a .book .points) ≡ false = omega (arith, tests) in
     rw (period-parts (openingOf (a .book) (a .element-data .now) []) (a .word), p)
 
 returns-2 : tie.Need-returns-2
 returns-2 c =
-    let a = c .before .before .before .before .before .before .before .before .before .before .args in
+    let start : tie.Start = search in
+    let a = start .args in
     let p : ltb (periodPoint (a .word)) (a .book .points) ≡ true = omega (arith, tests) in
     let e : ltb (periodElement (a .word)) (a .book .elements) ≡ false = omega (arith, tests) in
     rw (period-parts (openingOf (a .book) (a .element-data .now) []) (a .word), p, e)
@@ -52,25 +54,42 @@ shared-slice-read-kind-allows : tie.Need-shared-slice-read-kind-allows
 shared-slice-read-kind-allows c = search needs
 
 kind-allows-requires : tie.Need-kind-allows-requires
-kind-allows-requires c κs = let f = first-lt (c .before .before .before .before .before .before .before .before .before .before .before .before .before .args .word) in omega arith
+kind-allows-requires c κs =
+    let start : tie.Start = search in
+    let f = first-lt (start .args .word) in
+    omega arith
 
 returns-3 : tie.Need-returns-3
 unfolding kindOf
 returns-3 c =
-    let a = c .before .before .before .before .before .before .before .before .before .before .before .before .before .before .args in
+    let start : tie.Start = search in
+    let a = start .args in
     let p : ltb (periodPoint (a .word)) (a .book .points) ≡ true = omega (arith, tests) in
     let e : ltb (periodElement (a .word)) (a .book .elements) ≡ true = omega (arith, tests) in
+    let after-days-right : tie.After-days-right = search in
+    let after-quantity-of : tie.After-quantity-of = search in
+    let after-end-of : tie.After-end-of = search in
+    let after-first-of : tie.After-first-of = search in
     let d : daysRight (periodFirst (a .word)) (periodEnd (a .word)) (periodQuantity (a .word)) ≡ true
-    = rw (c .before .before .before .before .before .before .before .before .before .before .before .first-of .ensures, c .before .before .before .before .before .before .before .before .before .before .end-of .ensures, c .before .before .before .before .before .before .before .before .before .quantity-of .ensures) at (sym (c .before .before .before .days-right .ensures) ∙ c .before .before .if3 .taken) in
-    rw (period-parts (openingOf (a .book) (a .element-data .now) []) (a .word), p, e, d, c .kind-allows .ensures, c .before .before .before .before .before .before .before .before .before .before .before .first-of .ensures, c .before .before .before .before .before .before .before .before .before .before .end-of .ensures, c .before .before .before .before .before .before .before .before .before .quantity-of .ensures, c .before .before .before .before .before .before .before .before .before .before .before .before .element-of .ensures)
+    = rw (after-first-of .first-of .ensures, after-end-of .end-of .ensures, after-quantity-of .quantity-of .ensures)
+    at (sym (after-days-right .days-right .ensures) ∙ c .before .before .if3 .taken) in
+    let after-element-of : tie.After-element-of = search in
+    rw (period-parts (openingOf (a .book) (a .element-data .now) []) (a .word), p, e, d, c .kind-allows .ensures)
+    (rw (after-first-of .first-of .ensures, after-end-of .end-of .ensures, after-quantity-of .quantity-of .ensures)
+    (rw (after-element-of .element-of .ensures)))
 
 returns-4 : tie.Need-returns-4
 returns-4 c =
-    let a = c .before .before .before .before .before .before .before .before .before .before .before .before .args in
+    let start : tie.Start = search in
+    let a = start .args in
     let p : ltb (periodPoint (a .word)) (a .book .points) ≡ true = omega (arith, tests) in
     let e : ltb (periodElement (a .word)) (a .book .elements) ≡ true = omega (arith, tests) in
+    let after-quantity-of : tie.After-quantity-of = search in
+    let after-end-of : tie.After-end-of = search in
+    let after-first-of : tie.After-first-of = search in
     let d : daysRight (periodFirst (a .word)) (periodEnd (a .word)) (periodQuantity (a .word)) ≡ false
-    = rw (c .before .before .before .before .before .before .before .before .before .first-of .ensures, c .before .before .before .before .before .before .before .before .end-of .ensures, c .before .before .before .before .before .before .before .quantity-of .ensures) at (sym (c .before .days-right .ensures) ∙ c .if3 .left) in
+    = rw (after-first-of .first-of .ensures, after-end-of .end-of .ensures, after-quantity-of .quantity-of .ensures)
+    at (sym (c .before .days-right .ensures) ∙ c .if3 .left) in
     rw (period-parts (openingOf (a .book) (a .element-data .now) []) (a .word), p, e, d)
 
 pub period-right-spec : {M : Type 1} → statement M

@@ -1,4 +1,5 @@
--- `tables::place` meets its contract: `low` and `high` bracket the place; the rows are in order, so a middle row decides for all on its side.
+-- `tables::place` meets its contract: `low` and `high` bracket the place; the rows are in order, so a middle row decides for all on its
+-- side.
 use Prim.Native.Nat.{ℕ, _+_, _-_, _/_, _≤_, _<_}
 use lib.ListN.{getD}
 use native.Mathlib.Omega.{arith}
@@ -36,10 +37,12 @@ loop-less c = omega arith
 
 loop-again : tie.Need-loop-again Inv-loop μ-loop
 loop-again c =
-    let l = c .before .before .before .loop in
-    let a = c .before .before .before .before .args in
+    let at-loop : tie.At-loop Inv-loop μ-loop = search in
+    let l = at-loop .loop in
+    let start : tie.Start Inv-loop μ-loop = search in
+    let a = start .args in
     let m = l .low + (l .high - l .low) / 2 in
-    let s = c .before .before .before .before .pre in (
+    let s = start .pre in (
       omega arith,
       omega arith,
       (λ k h. omega (arith, rows-le (a .table .now) (a .used) (s .fits) (s .order) k m (omega arith) (omega arith))),
@@ -51,10 +54,12 @@ loop-less-2 c = omega arith
 
 loop-again-2 : tie.Need-loop-again-2 Inv-loop μ-loop
 loop-again-2 c =
-    let l = c .before .before .before .loop in
-    let a = c .before .before .before .before .args in
+    let at-loop : tie.At-loop Inv-loop μ-loop = search in
+    let l = at-loop .loop in
+    let start : tie.Start Inv-loop μ-loop = search in
+    let a = start .args in
     let m = l .low + (l .high - l .low) / 2 in
-    let s = c .before .before .before .before .pre in (
+    let s = start .pre in (
       omega arith,
       omega arith,
       l .inv .2,
@@ -67,7 +72,8 @@ returns c =
     let a = c .before .before .args in
     let s = c .before .before .pre in
     record {
-      is = below-is (a .table .now) (a .used) (a .word) (l .low) (s .fits) (omega arith) (l .inv .2) (λ k h h′. l .inv .3 k (omega arith) h′);
+      is = below-is (a .table .now) (a .used) (a .word) (l .low) (s .fits) (omega arith) (l .inv .2)
+          (λ k h h′. l .inv .3 k (omega arith) h′);
       within = omega arith;
     }
 

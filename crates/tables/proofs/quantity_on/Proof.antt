@@ -14,8 +14,10 @@ quantity-of-requires c κs = search needs
 
 returns : tie.Need-returns
 returns c =
-    let a = c .before .before .before .args in
-    rw (c .quantity-of .ensures, c .before .covering-row .ensures) (sym (quantity-covering (a .point) (a .element) (a .day) (take (a .used) (a .table .now))))
+    let start : tie.Start = search in
+    let a = start .args in
+    rw (c .quantity-of .ensures, c .before .covering-row .ensures)
+    (sym (quantity-covering (a .point) (a .element) (a .day) (take (a .used) (a .table .now))))
 
 pub quantity-on-spec : {M : Type 1} → statement M
 quantity-on-spec = tie.close (tie.spec covering-row-requires quantity-of-requires returns)

@@ -1,4 +1,5 @@
--- `tables::row_from` meets its contract: the row at the place is the first that is not below, and behind the last place in use there is none.
+-- `tables::row_from` meets its contract: the row at the place is the first that is not below, and behind the last place in use there is
+-- none.
 use mathlib.Core.Path.{sym}
 use lib.Seq.{getD-take, length-take-le}
 use native.Mathlib.Omega.{arith}
@@ -18,18 +19,18 @@ shared-slice-read-result c = search needs
 
 returns : tie.Need-returns
 returns c =
-    let s = c .before .before .before .before in
-    let a = s .args in
+    let start : tie.Start = search in
+    let a = start .args in
     let p = c .before .before .place .ensures in
-    let l = length-take-le (a .used) (a .table .now) (s .pre .fits) in
+    let l = length-take-le (a .used) (a .table .now) (start .pre .fits) in
     rw (← getD-take (a .used) (a .table .now) (c .before .before .place .result) 0 (omega arith), p .is) (from-at (a .word) _ (omega arith))
 
 returns-2 : tie.Need-returns-2
 returns-2 c =
-    let s = c .before .before .before in
-    let a = s .args in
+    let start : tie.Start = search in
+    let a = start .args in
     let p = c .before .place .ensures in
-    let l = length-take-le (a .used) (a .table .now) (s .pre .fits) in
+    let l = length-take-le (a .used) (a .table .now) (start .pre .fits) in
     sym (from-none (a .word) _ (omega arith))
 
 pub row-from-spec : {M : Type 1} → statement M

@@ -1,15 +1,12 @@
 -- `tables::value_fits` meets its contract: the row by itself, and the one before it where there is one.
 use mathlib.Core.Path.{_≡_, sym, _∙_}
 use mathlib.Core.Bool.{true, false}
-use mathlib.Core.List.{[]}
 use lib.Dec.{eqb}
-use lib.ListN.{getD}
 use native.Mathlib.Omega.{arith}
 use borrow.Author.Needs.{needs}
 use Rattle.rules.proofs.Tests.{tests}
-use Rattle.rules.specs.World.{openingOf}
-use Rattle.rules.specs.WellFormed.{valueRight, earlier}
-use Rattle.tables.specs.Tests.{fitsAt}
+use Rattle.rules.specs.WellFormed.{earlier}
+use Rattle.tables.specs.Tests.{rowFitsAt}
 use Rattle.tables.proofs.value_fits.Statement.{statement}
 use Rattle.tables.proofs.value_fits.Tie as tie
 
@@ -23,10 +20,11 @@ value-right-requires : tie.Need-value-right-requires
 value-right-requires c κs = search needs
 
 returns : tie.Need-returns
-unfolding fitsAt
+unfolding rowFitsAt
 returns c =
-    let a = c .before .before .before .before .before .args in
-    let r : valueRight (a .size) (a .low) (a .high) (openingOf (a .book) [] []) (getD (a .table .now) (a .i) 0) ≡ true = sym (c .before .before .value-right .ensures) ∙ c .before .if1 .taken in
+    let start : tie.Start = search in
+    let a = start .args in
+    let r = sym (c .before .before .value-right .ensures) ∙ c .before .if1 .taken in
     let z : eqb (a .i) 0 ≡ true = omega (arith, tests) in
     rw (r, z)
 
@@ -46,18 +44,21 @@ div-result-2 : tie.Need-div-result-2
 div-result-2 c = search needs
 
 returns-2 : tie.Need-returns-2
-unfolding fitsAt earlier
+unfolding rowFitsAt earlier
 returns-2 c =
-    let a = c .before .before .before .before .before .before .args in
-    let r : valueRight (a .size) (a .low) (a .high) (openingOf (a .book) [] []) (getD (a .table .now) (a .i) 0) ≡ true = sym (c .before .before .before .value-right .ensures) ∙ c .before .before .if1 .taken in
+    let start : tie.Start = search in
+    let a = start .args in
+    let after-value-right : tie.After-value-right = search in
+    let r = sym (after-value-right .value-right .ensures) ∙ c .before .before .if1 .taken in
     let z : eqb (a .i) 0 ≡ false = omega (arith, tests) in
     rw (r, z)
 
 returns-3 : tie.Need-returns-3
-unfolding fitsAt
+unfolding rowFitsAt
 returns-3 c =
-    let a = c .before .before .before .before .args in
-    let r : valueRight (a .size) (a .low) (a .high) (openingOf (a .book) [] []) (getD (a .table .now) (a .i) 0) ≡ false = sym (c .before .value-right .ensures) ∙ c .if1 .left in
+    let start : tie.Start = search in
+    let a = start .args in
+    let r = sym (c .before .value-right .ensures) ∙ c .if1 .left in
     rw r
 
 pub value-fits-spec : {M : Type 1} → statement M

@@ -20,7 +20,8 @@ value-point-of-requires c κs = search needs
 returns : tie.Need-returns
 unfolding valueRight
 returns c =
-    let a = c .before .before .before .before .args in
+    let start : tie.Start = search in
+    let a = start .args in
     let p : ltb (valuePoint (a .size) (a .word)) (a .book .points) ≡ false = omega (arith, tests) in
     rw p
 
@@ -30,7 +31,8 @@ value-first-of-requires c κs = search needs
 returns-2 : tie.Need-returns-2
 unfolding valueRight
 returns-2 c =
-    let a = c .before .before .before .before .before .before .args in
+    let start : tie.Start = search in
+    let a = start .args in
     let p : ltb (valuePoint (a .size) (a .word)) (a .book .points) ≡ true = omega (arith, tests) in
     let f : ltb (valueFirst (a .size) (a .word)) 36525 ≡ false = omega (arith, tests) in
     rw (p, f)
@@ -38,7 +40,8 @@ returns-2 c =
 returns-3 : tie.Need-returns-3
 unfolding valueRight within
 returns-3 c =
-    let a = c .before .before .before .before .before .before .before .args in
+    let start : tie.Start = search in
+    let a = start .args in
     let p : ltb (valuePoint (a .size) (a .word)) (a .book .points) ≡ true = omega (arith, tests) in
     let f : ltb (valueFirst (a .size) (a .word)) 36525 ≡ true = omega (arith, tests) in
     let l : leb (a .low) (valueOf (a .size) (a .word)) ≡ false = omega (arith, tests) in
@@ -47,11 +50,13 @@ returns-3 c =
 returns-4 : tie.Need-returns-4
 unfolding valueRight within
 returns-4 c =
-    let a = c .before .before .before .before .before .before .before .args in
+    let start : tie.Start = search in
+    let a = start .args in
     let p : ltb (valuePoint (a .size) (a .word)) (a .book .points) ≡ true = omega (arith, tests) in
     let f : ltb (valueFirst (a .size) (a .word)) 36525 ≡ true = omega (arith, tests) in
     let l : leb (a .low) (valueOf (a .size) (a .word)) ≡ true = omega (arith, tests) in
-    rw (p, f, l, c .before .before .before .before .before .before .value-of .ensures)
+    let after-value-of : tie.After-value-of = search in
+    rw (p, f, l, after-value-of .value-of .ensures)
 
 pub value-right-spec : {M : Type 1} → statement M
 value-right-spec =

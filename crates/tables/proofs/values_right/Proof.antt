@@ -7,13 +7,15 @@ use native.Mathlib.Omega.{arith}
 use borrow.Author.Needs.{needs}
 use Rattle.rules.specs.World.{openingOf}
 use Rattle.rules.specs.WellFormed.{earlier, valueRight}
-use Rattle.tables.specs.Tests.{fitsAt}
+use Rattle.tables.specs.Tests.{rowFitsAt}
 use Rattle.tables.proofs.Right.{table-rest, table-not, one-more}
 use Rattle.tables.proofs.values_right.Statement.{statement}
 use Rattle.tables.proofs.values_right.Tie as tie
 
 abbrev Inv-loop : tie.InvT-loop
-Inv-loop book size low high table used i₀ i = (i ≤ used) × ((k : ℕ) → k < i → fitsAt (earlier size) (valueRight size low high (openingOf book [] [])) table k ≡ true)
+Inv-loop book size low high table used i₀ i =
+    (i ≤ used)
+    × ((k : ℕ) → k < i → rowFitsAt (earlier size) (valueRight size low high (openingOf book [] [])) table k ≡ true)
 
 abbrev μ-loop : tie.MeasureT-loop
 μ-loop book size low high table used i₀ i = used - i
@@ -32,16 +34,23 @@ loop-less c = search needs
 
 loop-again : tie.Need-loop-again Inv-loop μ-loop
 loop-again c =
-    let l = c .before .before .before .loop in
-    let a = c .before .before .before .before .before .args in
-    (omega arith, one-more (fitsAt (earlier (a .size)) (valueRight (a .size) (a .low) (a .high) (openingOf (a .book) [] [])) (a .table .now)) (l .i) (l .inv .1) (sym (c .before .value-fits .ensures) ∙ c .if1 .taken))
+    let at-loop : tie.At-loop Inv-loop μ-loop = search in
+    let start : tie.Start Inv-loop μ-loop = search in
+    let l = at-loop .loop in
+    let a = start .args in
+    let right = valueRight (a .size) (a .low) (a .high) (openingOf (a .book) [] []) in
+    let fits = sym (c .before .value-fits .ensures) ∙ c .if1 .taken in
+    (omega arith, one-more (rowFitsAt (earlier (a .size)) right (a .table .now)) (l .i) (l .inv .1) fits)
 
 returns : tie.Need-returns Inv-loop μ-loop
 returns c =
-    let l = c .before .before .before .loop in
-    let s = c .before .before .before .before .before in
-    let a = s .args in
-    table-not (earlier (a .size)) (valueRight (a .size) (a .low) (a .high) (openingOf (a .book) [] [])) (a .table .now) (a .used) (s .pre .1) (l .i) (omega arith) (sym (c .before .value-fits .ensures) ∙ c .if1 .left)
+    let at-loop : tie.At-loop Inv-loop μ-loop = search in
+    let start : tie.Start Inv-loop μ-loop = search in
+    let l = at-loop .loop in
+    let a = start .args in
+    let right = valueRight (a .size) (a .low) (a .high) (openingOf (a .book) [] []) in
+    let fits = sym (c .before .value-fits .ensures) ∙ c .if1 .left in
+    table-not (earlier (a .size)) right (a .table .now) (a .used) (start .pre .1) (l .i) (omega arith) fits
 
 zeros-behind-requires : tie.Need-zeros-behind-requires Inv-loop μ-loop
 zeros-behind-requires c κs = search needs
@@ -49,9 +58,11 @@ zeros-behind-requires c κs = search needs
 returns-2 : tie.Need-returns-2 Inv-loop μ-loop
 returns-2 c =
     let l = c .before .before .loop in
-    let s = c .before .before .before .before in
-    let a = s .args in
-    c .zeros-behind .ensures ∙ table-rest (earlier (a .size)) (valueRight (a .size) (a .low) (a .high) (openingOf (a .book) [] [])) (a .table .now) (a .used) (s .pre .1) (λ k h. l .inv .1 k (omega arith))
+    let start : tie.Start Inv-loop μ-loop = search in
+    let a = start .args in
+    let right = valueRight (a .size) (a .low) (a .high) (openingOf (a .book) [] []) in
+    c .zeros-behind .ensures
+    ∙ table-rest (earlier (a .size)) right (a .table .now) (a .used) (start .pre .1) (λ k h. l .inv .1 k (omega arith))
 
 pub values-right-spec : {M : Type 1} → statement M
 values-right-spec =

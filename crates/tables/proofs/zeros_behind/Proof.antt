@@ -37,15 +37,23 @@ loop-less c = search needs
 
 loop-again : tie.Need-loop-again Inv-loop μ-loop
 loop-again c =
-    let l = c .before .before .before .loop in
-    let x = c .if1 .taken in
-    (omega arith, omega arith, (λ k h m. cases (eqb k (l .i)) (λ t. rw (eqb-true k (l .i) t) x) (λ t. l .inv .2 k h (omega (arith, tests)))))
+    let at-loop : tie.At-loop Inv-loop μ-loop = search in
+    let l = at-loop .loop in
+    let x = c .if1 .taken in (
+      omega arith,
+      omega arith,
+      (λ k h m. cases (eqb k (l .i))
+          (λ t. rw (eqb-true k (l .i) t) x)
+          (λ t. l .inv .2 k h (omega (arith, tests)))),
+    )
 
 returns : tie.Need-returns Inv-loop μ-loop
 unfolding isZero
 returns c =
-    let l = c .before .before .before .loop in
-    let a = c .before .before .before .before .args in
+    let at-loop : tie.At-loop Inv-loop μ-loop = search in
+    let l = at-loop .loop in
+    let start : tie.Start Inv-loop μ-loop = search in
+    let a = start .args in
     let e : a .used + (l .i - a .used) ≡ l .i = omega arith in
     let z : isZero (getD (drop (a .used) (a .table .now)) (l .i - a .used) 0) ≡ false = rw (getD-drop, e) (ne-eqb _ _ (c .if1 .left)) in
     sym (in-not isZero (drop (a .used) (a .table .now)) (l .i - a .used) (rw length-drop (omega arith)) z)
@@ -55,7 +63,9 @@ unfolding isZero
 returns-2 c =
     let l = c .before .loop in
     let a = c .before .before .args in
-    sym (in-all isZero (drop (a .used) (a .table .now)) (λ i h. let h′ = rw length-drop at h in rw getD-drop (eq-eqb _ _ (l .inv .2 (a .used + i) (omega arith) (omega arith)))))
+    sym (in-all isZero (drop (a .used) (a .table .now)) (λ i h.
+    let h′ = rw length-drop at h in
+    rw getD-drop (eq-eqb _ _ (l .inv .2 (a .used + i) (omega arith) (omega arith)))))
 
 pub zeros-behind-spec : {M : Type 1} → statement M
 zeros-behind-spec =

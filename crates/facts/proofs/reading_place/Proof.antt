@@ -1,0 +1,55 @@
+-- A month has at most 31 days, so no product is large; the place is the definition's.
+use Prim.Native.Nat.{_*_, _≤_}
+use native.Mathlib.Nat.{mul-le-mul}
+use native.Mathlib.Omega.{arith}
+use Rattle.calendar.proofs.MonthLaws.{days-range}
+use Rattle.rules.specs.World.{readingAt, monthFirst, monthDays}
+use borrow.Author.Needs.{needs}
+use Rattle.facts.proofs.reading_place.Statement.{statement}
+use Rattle.facts.proofs.reading_place.Tie as tie
+
+first-day-requires : tie.Need-first-day-requires
+first-day-requires c κs = search needs
+
+days-in-month-requires : tie.Need-days-in-month-requires
+days-in-month-requires c κs = search needs
+
+product : (c : tie.After-days-in-month) → c .before .before .args .point * c .days-in-month .result ≤ 256 * 31
+product c =
+    let start : tie.Start = search in
+    let days = days-range (start .args .book .year) (start .args .book .month) in
+    let p : start .args .point ≤ 256 = omega arith in
+    let q : c .days-in-month .result ≤ 31 = rw (c .days-in-month .ensures) (days .1) in
+    mul-le-mul p q
+
+mul-day-place : tie.Need-mul-day-place
+mul-day-place c = let p = product c in search needs
+
+sub-day-place : tie.Need-sub-day-place
+sub-day-place c = search needs
+
+add-day-place : tie.Need-add-day-place
+add-day-place c = let p = product c in search needs
+
+mul-result : tie.Need-mul-result
+mul-result c = let p = product c in search needs
+
+add-result : tie.Need-add-result
+add-result c = let p = product c in search needs
+
+returns : tie.Need-returns
+unfolding readingAt monthFirst monthDays
+returns c o = rw (c .before .first-day .ensures, c .days-in-month .ensures)
+
+pub reading-place-spec : {M : Type 1} → statement M
+reading-place-spec =
+    tie.close
+    (tie.spec
+    first-day-requires
+    days-in-month-requires
+    mul-day-place
+    sub-day-place
+    add-day-place
+    mul-result
+    add-result
+    returns)

@@ -1,0 +1,8 @@
+-- Who pays for a point on a day.
+use Prim.Native.Nat.{ℕ}
+use mathlib.Core.Bool.{cond}
+use Rattle.rules.specs.World.{Tables, holderOn, stateOn, countingState}
+
+-- the holder where the state counts, else nobody (0)
+unfoldable pub payerOn : Tables → (point day : ℕ) → ℕ
+payerOn t p d = cond (countingState (stateOn t p d)) (holderOn t p d) 0

@@ -1,0 +1,99 @@
+// What the tables say of a point on a day: its holder, its state, who pays, up to which day a new link runs, and where the reading of an
+// hour stands.
+ghost use mathlib.Core.Path.{_≡_};
+ghost use Prim.Native.Nat.{_≤_, _<_};
+ghost use Rattle.rules.specs.Sizes.{mostPoints, endOfDays, holderSize, stateSize};
+ghost use Rattle.rules.specs.World.{countingState, holderOn, stateOn, readingAt};
+ghost use Rattle.rules.specs.Lent.{Lists, openingIn, tablesIn, lendData, lendLinks, lendHolders, lendStates, was};
+ghost use Rattle.tables.specs.Order.{LinkRows, ValueRows};
+ghost use Rattle.facts.specs.Links.{linkEnds, LinkFits};
+ghost use Rattle.facts.specs.Payers.{payerOn};
+ghost use Rattle.facts.specs.Readings.{HourOfMonth};
+use calendar::days_in_month;
+use calendar::first_day;
+use pricing::kind_of;
+use rules::Body;
+use rules::Book;
+use rules::CONNECTED;
+use rules::DISCONNECTED;
+use rules::HOLDER_SIZE;
+use rules::HOUR_PLACES;
+use rules::STATE_SIZE;
+use tables::link_end;
+use tables::value_on;
+
+// The holder of a point on a day, 0 where nobody holds it. Cost: logarithmic in the rows.
+pub fn holder_on(book: Book, holders: &[u64], point: u64, day: u64) -> u64
+    requires { ⌜ ValueRows holderSize (now holders) (book .holders) ⌝ }
+    requires { ⌜ (point < mostPoints) × (day < endOfDays) ⌝ }
+    ensures { λ r. ⌜ ((o : Lists) → r ≡ holderOn (tablesIn book (lendHolders (was holders) o)) point day) ⌝ }
+{
+    value_on(holders, book.holders as usize, HOLDER_SIZE, point, day)
+}
+
+// The state of a point on a day, 0 where it does not exist. Cost: logarithmic in the rows.
+pub fn state_on(book: Book, states: &[u64], point: u64, day: u64) -> u64
+    requires { ⌜ ValueRows stateSize (now states) (book .states) ⌝ }
+    requires { ⌜ (point < mostPoints) × (day < endOfDays) ⌝ }
+    ensures { λ r. ⌜ ((o : Lists) → r ≡ stateOn (tablesIn book (lendStates (was states) o)) point day) ⌝ }
+{
+    value_on(states, book.states as usize, STATE_SIZE, point, day)
+}
+
+// Does a day in that state count: connected or disconnected.
+pub fn is_counting(state: u64) -> bool
+    ensures { λ r. ⌜ r ≡ countingState state ⌝ }
+{
+    if state == CONNECTED {
+        true
+    } else {
+        state == DISCONNECTED
+    }
+}
+
+// Who pays for a point on a day: the holder where the state counts, else 0. Cost: logarithmic in the rows.
+pub fn payer_on(book: Book, holders: &[u64], states: &[u64], point: u64, day: u64) -> u64
+    requires { ⌜ ValueRows holderSize (now holders) (book .holders) × ValueRows stateSize (now states) (book .states) ⌝ }
+    requires { ⌜ (point < mostPoints) × (day < endOfDays) ⌝ }
+    ensures { λ r. ⌜ ((o : Lists) →
+        r ≡ payerOn (tablesIn book (lendHolders (was holders) (lendStates (was states) o))) point day) ⌝ }
+{
+    if is_counting(state_on(book, states, point, day)) {
+        holder_on(book, holders, point, day)
+    } else {
+        0
+    }
+}
+
+// Up to which day a new link runs; 0 for any other message. Cost: logarithmic in the rows.
+pub fn link_ends(book: Book, element_data: &[u8], links: &[u64], body: Body) -> u64
+    requires { ⌜ LinkRows (now links) (book .periods) ⌝ }
+    requires { ⌜ LinkFits (now element_data) body ⌝ }
+    ensures { λ r. ⌜ ((o : Lists) →
+        let t = lendData (was element_data) (lendLinks (was links) o) in
+        r ≡ linkEnds (openingIn book t) (tablesIn book t) body) ⌝ }
+{
+    match body {
+        Body::Link {
+            point,
+            element,
+            day,
+            ..
+        } => {
+            let kind = kind_of(element_data, element as usize);
+            link_end(kind, links, book.periods as usize, point, element, day)
+        }
+        _ => 0,
+    }
+}
+
+// Where the reading of an hour stands. Constant time.
+pub fn reading_place(book: Book, point: u64, day: u64, hour: u64) -> usize
+    requires { ⌜ HourOfMonth book point day hour ⌝ }
+    ensures { λ r. ⌜ ((o : Lists) → r ≡ readingAt (openingIn book o) point day hour) ⌝ }
+{
+    let first = first_day(book.year, book.month);
+    let days = days_in_month(book.year, book.month);
+    let day_place = (point * days + (day - first)) as usize;
+    day_place * HOUR_PLACES + hour as usize
+}

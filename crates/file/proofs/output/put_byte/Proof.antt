@@ -1,0 +1,20 @@
+-- `put_byte` meets its contract: one store writes a text of one byte.
+use Rattle.file.proofs.PlacedLaws.{one-written}
+use borrow.Author.Needs.{needs}
+use Rattle.file.proofs.output.put_byte.Statement.{statement}
+use Rattle.file.proofs.output.put_byte.Tie as tie
+
+slice-write-out : tie.Need-slice-write-out
+slice-write-out c = search needs
+
+add-result : tie.Need-add-result
+add-result c = search needs
+
+same-length : tie.Need-same-length
+same-length c = search needs
+
+returns : tie.Need-returns
+returns c = one-written (c .args .out .now) (c .args .at) (c .args .b) (c .pre)
+
+pub put-byte-spec : {M : Type 1} → statement M
+put-byte-spec = tie.close (tie.spec slice-write-out add-result same-length returns)

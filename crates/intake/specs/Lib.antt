@@ -1,2 +1,0 @@
--- What the answers of this crate say.
-pub mod Found

@@ -1,0 +1,69 @@
+-- Records as numbers: six a record, in the order of its fields, at the front of a lent list of numbers.
+use mathlib.Core.Path.{_≡_, refl, sym, ap, ap₂, _∙_}
+use mathlib.Core.List.{List, [], _∷_, _++_, append-assoc, append-nil}
+use Prim.Native.Nat.{ℕ, suc, _+_, _-_, _*_, _≤_, _<_}
+use native.Mathlib.Omega.{arith}
+use native.Mathlib.Numerals.{add-one}
+use lib.IntN.{ℤ}
+use lib.ListN.{length, set, take, drop, length-append, length-drop}
+use lib.Seq.{sets, sets-eq, take-at, drop-append-add, drop-drop}
+use Rattle.rules.specs.declared.Record.{Record}
+use Rattle.rules.specs.Basics.{listTo}
+use Rattle.rules.proofs.Ranges.{length-listTo}
+use Rattle.ledger.specs.RecordNumbers.{recordNumbers, numbersOf, numbersAfter}
+
+pub length-six : (r : Record) → length (recordNumbers r) ≡ 6
+unfolding recordNumbers
+length-six r = refl
+
+pub length-numbers : (rs : List Record) → length (numbersOf rs) ≡ length rs * 6
+unfolding numbersOf
+length-numbers [] = refl
+length-numbers (r ∷ rs) = length-append (recordNumbers r) (numbersOf rs) ∙ rw (length-six r) (let h = length-numbers rs in omega arith)
+
+numbers-more : (rs : List Record) (r : Record) → numbersOf (rs ++ (r ∷ [])) ≡ numbersOf rs ++ recordNumbers r
+unfolding numbersOf
+numbers-more [] r = append-nil (recordNumbers r)
+numbers-more (x ∷ rs) r = ap (λ (l : List ℤ). recordNumbers x ++ l) (numbers-more rs r) ∙ sym (append-assoc (recordNumbers x) (numbersOf rs) (recordNumbers r))
+
+pub numbers-none : (lent : List ℤ) → lent ≡ numbersAfter [] lent
+unfolding numbersAfter numbersOf
+numbers-none lent = refl
+
+pub length-after : (rs : List Record) (lent : List ℤ) → length rs * 6 ≤ length lent → length (numbersAfter rs lent) ≡ length lent
+unfolding numbersAfter
+length-after rs lent h = length-append (numbersOf rs) _ ∙ rw (length-numbers rs, length-drop) (omega arith)
+
+-- one record more
+pub numbers-put : (rs : List Record) (r : Record) (lent : List ℤ) (n : ℕ) → length rs ≡ n → n * 6 + 5 < length lent
+    → sets (numbersAfter rs lent) (n * 6) (recordNumbers r) ≡ numbersAfter (rs ++ (r ∷ [])) lent
+unfolding numbersAfter
+numbers-put rs r lent n e h =
+    let l : length (numbersOf rs) ≡ n * 6 = length-numbers rs ∙ ap (λ k. k * 6) e in
+    let s = length-after rs lent (rw e (omega arith)) in
+    let k : length (rs ++ (r ∷ [])) ≡ suc n = length-append rs (r ∷ []) ∙ rw e (omega arith) in
+    let rest = drop (n * 6) lent in
+    sets-eq (recordNumbers r) (numbersAfter rs lent) (n * 6) (rw (length-six r, s) (omega arith))
+    ∙ ap (λ (m : ℕ). take (n * 6) (numbersAfter rs lent) ++ recordNumbers r ++ drop (n * 6 + m) (numbersAfter rs lent)) (length-six r)
+    ∙ (ap (λ (m : ℕ). take (n * 6) (numbersOf rs ++ drop (m * 6) lent) ++ recordNumbers r ++ drop (n * 6 + 6) (numbersOf rs ++ drop (m * 6) lent)) e
+    ∙ ap₂ (λ (a b : List ℤ). a ++ recordNumbers r ++ b) (take-at (numbersOf rs) rest (n * 6) l)
+    (ap (λ m. drop (m + 6) (numbersOf rs ++ rest)) (sym l) ∙ drop-append-add (numbersOf rs) rest 6 ∙ drop-drop 6 (n * 6) lent ∙ ap (λ m. drop m lent) (let z : n * 6 + 6 ≡ suc n * 6 = omega arith in z))
+    ∙ ap₂ (λ (a : List ℤ) (m : ℕ). a ++ drop (m * 6) lent) (sym (numbers-more rs r)) (sym k))
+
+-- six stores one behind the other
+pub six-stores : (xs : List ℤ) (at : ℕ) (a b c d e f : ℤ)
+    → set (set (set (set (set (set xs at a) (at + 1) b) (at + 2) c) (at + 3) d) (at + 4) e) (at + 5) f ≡ sets xs at (a ∷ b ∷ c ∷ d ∷ e ∷ f ∷ [])
+six-stores xs at a b c d e f =
+    let p1 : at + 1 ≡ suc at = omega arith in
+    let p2 : at + 2 ≡ suc (suc at) = omega arith in
+    let p3 : at + 3 ≡ suc (suc (suc at)) = omega arith in
+    let p4 : at + 4 ≡ suc (suc (suc (suc at))) = omega arith in
+    let p5 : at + 5 ≡ suc (suc (suc (suc (suc at)))) = omega arith in
+    λ i. set (set (set (set (set (set xs at a) (p1 i) b) (p2 i) c) (p3 i) d) (p4 i) e) (p5 i) f
+
+-- one record more of a list by number
+pub numbers-step : (f : ℕ → Record) (i : ℕ) (lent out out′ : List ℤ) (r : Record) → out ≡ numbersAfter (listTo f i) lent → out′ ≡ sets out (i * 6) (recordNumbers r) → r ≡ f i → i * 6 + 5 < length lent
+    → out′ ≡ numbersAfter (listTo f (i + 1)) lent
+unfolding listTo
+numbers-step f i lent out out′ r p q e h =
+    q ∙ ap₂ (λ (x : List ℤ) (y : Record). sets x (i * 6) (recordNumbers y)) p e ∙ numbers-put (listTo f i) (f i) lent i (length-listTo f i) h ∙ ap (λ (n : ℕ). numbersAfter (listTo f n) lent) (sym (add-one i))

@@ -1,0 +1,50 @@
+-- Records as numbers: six a record, in the order of its fields, at the front of a lent list of numbers.
+use mathlib.Core.List.{List, [], _∷_, _++_}
+use Prim.Native.Nat.{ℕ, _+_, _*_, _<_}
+use lib.IntN.{ℤ, pos, natAbs}
+use lib.ListN.{length, getD, drop}
+use lib.Signed.{nonNeg}
+use lib.Dec.{T}
+use Rattle.rules.specs.declared.Record.{Record}
+use Rattle.rules.specs.Sizes.{recordSize}
+
+-- kind, supplier, element, quantity, kroner, billionths
+unfoldable pub recordNumbers : Record → List ℤ
+recordNumbers r = pos (r .kind) ∷ pos (r .supplier) ∷ pos (r .element) ∷ r .quantity ∷ r .kroner ∷ pos (r .billionths) ∷ []
+
+unfoldable pub numbersOf : List Record → List ℤ
+numbersOf [] = []
+numbersOf (r ∷ rs) = recordNumbers r ++ numbersOf rs
+
+-- a lent list of numbers afterwards: the records stand at its front, and numbers past the last one written stay as lent
+unfoldable pub numbersAfter : List Record → List ℤ → List ℤ
+numbersAfter rs lent = numbersOf rs ++ drop (length rs * recordSize) lent
+
+-- the record that stands at a place of a list of numbers
+unfoldable pub recordAt : (numbers : List ℤ) → (i : ℕ) → Record
+recordAt ns i =
+    record {
+      kind = natAbs (getD ns (i * recordSize) (pos 0));
+      supplier = natAbs (getD ns (i * recordSize + 1) (pos 0));
+      element = natAbs (getD ns (i * recordSize + 2) (pos 0));
+      quantity = getD ns (i * recordSize + 3) (pos 0);
+      kroner = getD ns (i * recordSize + 4) (pos 0);
+      billionths = natAbs (getD ns (i * recordSize + 5) (pos 0));
+    }
+
+-- a record stands there: kind, supplier, element and billionths are not below zero
+pub record RecordPlaces (ns : List ℤ) (i : ℕ) : Type 0 where
+  pub inside : i * recordSize + 5 < length ns
+  pub kind : T (nonNeg (getD ns (i * recordSize) (pos 0)))
+  pub supplier : T (nonNeg (getD ns (i * recordSize + 1) (pos 0)))
+  pub element : T (nonNeg (getD ns (i * recordSize + 2) (pos 0)))
+  pub billionths : T (nonNeg (getD ns (i * recordSize + 5) (pos 0)))
+
+-- numbers that fit 63 bits
+pub record SmallRecord (r : Record) : Type 0 where
+  pub kind : r .kind < 9223372036854775808
+  pub supplier : r .supplier < 9223372036854775808
+  pub element : r .element < 9223372036854775808
+  pub quantity : natAbs (r .quantity) < 9223372036854775808
+  pub kroner : natAbs (r .kroner) < 9223372036854775808
+  pub billionths : r .billionths < 9223372036854775808

@@ -1,0 +1,38 @@
+// The list of records that a caller lends: records that stand as numbers are written into it from its front.
+ghost use mathlib.Core.Path.{_≡_};
+ghost use mathlib.Core.List.{_++_};
+ghost use Prim.Native.Nat.{ℕ, _≤_, _<_};
+ghost use lib.ListN.{length, drop};
+ghost use Rattle.rules.specs.Basics.{listTo};
+ghost use Rattle.rules.specs.Lent.{was, left};
+ghost use Rattle.ledger.specs.RecordNumbers.{recordAt, RecordPlaces};
+use rules::RECORD_SIZE;
+use rules::Record;
+
+// The record that stands at place `i` of a list of numbers.
+pub fn record_at(numbers: &[i64], i: usize) -> Record
+    requires { ⌜ RecordPlaces (now numbers) i ⌝ }
+    ensures { λ r. ⌜ r ≡ recordAt (was numbers) i ⌝ }
+{
+    let at = i * RECORD_SIZE;
+    Record {
+        kind: numbers[at] as u64,
+        supplier: numbers[at + 1] as u64,
+        element: numbers[at + 2] as u64,
+        quantity: numbers[at + 3],
+        kroner: numbers[at + 4],
+        billionths: numbers[at + 5] as u64,
+    }
+}
+
+// The first `count` records, at the front of the list; entries past them stay as lent. Linear in them.
+pub fn put_list(list: &mut [Record], numbers: &[i64], count: usize)
+    requires { ⌜ (count ≤ length (now list)) × ((i : ℕ) → i < count → RecordPlaces (now numbers) i) ⌝ }
+    ensures { λ _. ⌜ left list ≡ listTo (recordAt (was numbers)) count ++ drop count (was list) ⌝ }
+{
+    let mut i = 0;
+    while i < count {
+        list[i] = record_at(numbers, i);
+        i += 1;
+    }
+}

@@ -1,0 +1,81 @@
+// What an opening writes: a book in which no row is in use, and zeros into every table.
+ghost use mathlib.Core.Path.{_≡_};
+ghost use lib.IntN.{pos};
+ghost use lib.ListN.{length, replicate};
+ghost use Rattle.rules.specs.Lent.{Lists, lendTables, left, was};
+ghost use Rattle.recording.specs.Opened.{freshBook, cleared};
+use rules::Book;
+use tables::clear;
+
+// The book of an opening: no row is in use, and the fixing comes next.
+pub fn fresh_book(year: u64, month: u64, points: u64, suppliers: u64, elements: u64) -> Book
+    ensures { λ r. ⌜ r ≡ freshBook year month points suppliers elements ⌝ }
+{
+    Book {
+        year: year,
+        month: month,
+        points: points,
+        suppliers: suppliers,
+        elements: elements,
+        periods: 0,
+        holders: 0,
+        states: 0,
+        round: 1,
+    }
+}
+
+// Every reading is 0. Linear in the readings lent.
+fn clear_readings(readings: &mut [u32])
+    ensures { λ _. ⌜ left readings ≡ replicate (length (was readings)) 0 ⌝ }
+{
+    let mut i = 0;
+    while i < readings.len() {
+        readings[i] = 0;
+        i += 1;
+    }
+}
+
+// Every block mark is 0. Linear in the marks lent.
+fn clear_blocks(blocks: &mut [u8])
+    ensures { λ _. ⌜ left blocks ≡ replicate (length (was blocks)) 0 ⌝ }
+{
+    let mut i = 0;
+    while i < blocks.len() {
+        blocks[i] = 0;
+        i += 1;
+    }
+}
+
+// Every number of every line is 0. Linear in the numbers lent.
+fn clear_lines(lines: &mut [i64])
+    ensures { λ _. ⌜ left lines ≡ replicate (length (was lines)) (pos 0) ⌝ }
+{
+    let mut i = 0;
+    while i < lines.len() {
+        lines[i] = 0;
+        i += 1;
+    }
+}
+
+// Every table that messages write is 0. Linear in what is lent.
+pub fn clear_tables(
+    links: &mut [u64],
+    holders: &mut [u64],
+    states: &mut [u64],
+    readings: &mut [u32],
+    blocks: &mut [u8],
+    lines: &mut [i64],
+    sent: &mut [i64],
+)
+    ensures { λ _. ⌜ ((o : Lists) →
+        lendTables (left links) (left holders) (left states) (left readings) (left blocks) (left lines) (left sent) o
+        ≡ cleared (lendTables (was links) (was holders) (was states) (was readings) (was blocks) (was lines) (was sent) o)) ⌝ }
+{
+    clear(links);
+    clear(holders);
+    clear(states);
+    clear_readings(readings);
+    clear_blocks(blocks);
+    clear_lines(lines);
+    clear_lines(sent);
+}

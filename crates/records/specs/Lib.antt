@@ -1,2 +1,0 @@
--- What the functions of this crate are stated by.
-pub mod Listed

@@ -1,0 +1,112 @@
+-- The limits and sizes of document 01, each named once.
+use Prim.Native.Nat.{ℕ, _*_}
+
+-- "Is the month within 2000 to 2099"
+abbrev pub firstYear : ℕ
+firstYear = 2000
+
+abbrev pub lastYear : ℕ
+lastYear = 2099
+
+abbrev pub lastMonth : ℕ
+lastMonth = 12
+
+-- "Points: 1 to 256", "Suppliers: 1 to 16", "Elements: 1 to 64"
+abbrev pub mostPoints : ℕ
+mostPoints = 256
+
+abbrev pub mostSuppliers : ℕ
+mostSuppliers = 16
+
+abbrev pub mostElements : ℕ
+mostElements = 64
+
+-- "36,524 is 31 December 2099": the first day after the last, where a period that nothing ends runs to
+abbrev pub endOfDays : ℕ
+endOfDays = 36525
+
+-- "1,024 periods, 1,024 holders, 1,024 states"
+abbrev pub places : ℕ
+places = 1024
+
+-- "kind, owner, marks": the bytes of an element
+abbrev pub elementSize : ℕ
+elementSize = 3
+
+-- "24 prices per element"
+abbrev pub pricePlaces : ℕ
+pricePlaces = 24
+
+-- "24 readings per point and day"
+abbrev pub hourPlaces : ℕ
+hourPlaces = 24
+
+-- a line is a quantity, kroner and billionths
+abbrev pub lineSize : ℕ
+lineSize = 3
+
+-- a supplier and an element each
+abbrev pub mostLines : ℕ
+mostLines = 1024
+
+-- a record is a kind, a supplier, an element, a quantity, kroner and billionths
+abbrev pub recordSize : ℕ
+recordSize = 6
+
+-- "up to 9,999,999,999 in size per month or per fee, up to 9,999,999 per kWh"
+abbrev pub mostPrice : ℕ
+mostPrice = 9999999999
+
+abbrev pub mostTariffPrice : ℕ
+mostTariffPrice = 9999999
+
+-- "quantity 1 to 999, Wh 0 to 9,999,999"
+abbrev pub mostQuantity : ℕ
+mostQuantity = 999
+
+abbrev pub mostEnergy : ℕ
+mostEnergy = 9999999
+
+-- "at most 1,095 after the received day, and at most 90 (grid company) or 21 (supplier) before it"
+abbrev pub daysAhead : ℕ
+daysAhead = 1095
+
+abbrev pub gridDaysBack : ℕ
+gridDaysBack = 90
+
+abbrev pub supplierDaysBack : ℕ
+supplierDaysBack = 21
+
+-- the billionths of a krone
+abbrev pub billion : ℕ
+billion = 1000000000
+
+-- ---- rows are packed words: how many values a field has room for, and the word that one of it stands for
+
+abbrev pub elementRoom : ℕ
+elementRoom = 64
+
+abbrev pub dayRoom : ℕ
+dayRoom = 65536
+
+abbrev pub quantityRoom : ℕ
+quantityRoom = 1024
+
+abbrev pub endUnit : ℕ
+endUnit = quantityRoom
+
+abbrev pub firstUnit : ℕ
+firstUnit = endUnit * dayRoom
+
+abbrev pub elementUnit : ℕ
+elementUnit = firstUnit * dayRoom
+
+abbrev pub pointUnit : ℕ
+pointUnit = elementUnit * elementRoom
+
+-- dated values: one more than the largest holder or state that a row has room for
+abbrev pub holderSize : ℕ
+holderSize = 32
+
+abbrev pub stateSize : ℕ
+stateSize = 8

@@ -1,0 +1,23 @@
+-- `intake::reading_of` meets its contract: kind 6: the three tests are those of the rules.
+use mathlib.Core.Path.{_∙_}
+use Rattle.rules.specs.Messages.{noHour, noElement, isQuantity}
+use borrow.Author.Needs.{needs}
+use Rattle.validation.proofs.fields.reading_of.Statement.{statement}
+use Rattle.validation.proofs.fields.reading_of.Tie as tie
+
+is-day-requires : tie.Need-is-day-requires
+is-day-requires c κs = search needs
+
+is-reading-requires : tie.Need-is-reading-requires
+is-reading-requires c κs = search needs
+
+body-when-requires : tie.Need-body-when-requires
+body-when-requires c κs = search needs
+
+returns : tie.Need-returns
+unfolding noHour noElement isQuantity
+returns c = c .body-when .ensures ∙ rw (c .before .before .before .is-day .ensures, c .before .is-reading .ensures)
+
+pub reading-of-spec : {M : Type 1} → statement M
+reading-of-spec =
+    tie.close (tie.spec is-day-requires is-reading-requires body-when-requires returns)

@@ -1,0 +1,16 @@
+-- `messages::grid_company_may` meets its contract: by cases on owner and tax mark.
+use borrow.Author.Tests.{eq-eqb, ne-eqb}
+use Rattle.validation.proofs.questions.grid_company_may.Statement.{statement}
+use Rattle.validation.proofs.questions.grid_company_may.Tie as tie
+
+returns : tie.Need-returns
+returns c = rw (eq-eqb _ _ (c .if1 .taken))
+
+returns-2 : tie.Need-returns-2
+returns-2 c = rw (ne-eqb _ _ (c .before .if1 .left), eq-eqb _ _ (c .if2 .taken))
+
+returns-3 : tie.Need-returns-3
+returns-3 c = rw (ne-eqb _ _ (c .before .if1 .left), ne-eqb _ _ (c .if2 .left))
+
+pub grid-company-may-spec : {M : Type 1} → statement M
+grid-company-may-spec = tie.close (tie.spec returns returns-2 returns-3)

@@ -1,0 +1,20 @@
+-- What a found sender, body or message is: the value of document 01, or none.
+use mathlib.Core.Option.{Option, none, some}
+use Rattle.rules.specs.declared.Sender.{Sender}
+use Rattle.rules.specs.declared.Body.{Body}
+use Rattle.rules.specs.declared.Message.{Message}
+use Rattle.validation.specs.declared.fields.FoundSender.{FoundSender}
+use Rattle.validation.specs.declared.fields.FoundBody.{FoundBody}
+use Rattle.validation.specs.declared.fields.Understood.{Understood}
+
+abbrev pub foundSender : FoundSender → Option Sender
+foundSender (FoundSender.Known s) = some s
+foundSender FoundSender.Unknown = none
+
+abbrev pub foundBody : FoundBody → Option Body
+foundBody (FoundBody.Known b) = some b
+foundBody FoundBody.Unknown = none
+
+abbrev pub foundMessage : Understood → Option Message
+foundMessage (Understood.Passed m) = some m
+foundMessage Understood.Refused = none

@@ -1,2 +1,0 @@
--- What the functions of this crate ask, and what they leave.
-pub mod Recorded
