@@ -1,42 +1,48 @@
--- A message of a whole book: each way through the code ends in the rules' answer and step. By the questions that have passed on the way.
--- Assumes nothing.
-use Prim.Native.Nat.{ℕ, _≤_, _<_}
-use mathlib.Core.Path.{_≡_, refl, sym, ap, subst, _∙_}
+-- A message of a well-formed book: each way through the code ends in the rules' answer and step, by the questions that have passed on the
+-- way.
+use Prim.Native.Nat.{ℕ, _+_, _≤_, _<_, min}
+use mathlib.Core.Path.{_≡_, refl, sym, ap, ap₂, subst, _∙_}
 use mathlib.Core.Logic.{_≢_}
 use mathlib.Core.Bool.{true, false, cond, false≢true}
-use mathlib.Core.List.{List, []}
+use mathlib.Core.List.{List, [], _∷_}
+use types.Run.{OneOf, miss}
+use denote.Enum.Declared.{tagOf}
 use mathlib.Core.Option.{Option, none, some}
 use lib.IntN.{ℤ}
-use lib.ListN.{length, getD}
-use lib.Dec.{eqb}
-use borrow.Author.Tests.{eqb-true, ne-eqb, le-leb, lt-leb}
+use lib.ListN.{length, set}
+use lib.Dec.{leb}
+use borrow.Author.Tests.{ne-eqb, le-leb, lt-leb}
 use native.Mathlib.Omega.{arith}
 use Rattle.rules.specs.declared.Book.{Book}
 use Rattle.rules.specs.declared.Body.{Body}
-use Rattle.rules.specs.declared.Body.the-variants.{Round}
+use Rattle.rules.specs.declared.Body.the-variants.{Link, Stop, Quantity, Holder, State, Reading, Block, Round}
+use Rattle.rules.proofs.Body.{the-type}
 use Rattle.rules.specs.declared.Fields.{Fields}
 use Rattle.rules.specs.declared.Message.{Message}
 use Rattle.rules.specs.Answers.{numberOf}
-use Rattle.rules.specs.World.{Position, World, worldOf}
-use Rattle.rules.specs.WellFormed.{rowsFit, withinLimits, openingSized, tablesSized, linesSized, tablesRight, linesRight, linePlaces, question2, question3, question5}
+use Rattle.rules.specs.World.{World, factsOf, holderOn, stateOn, energyOf}
+use Rattle.rules.specs.WellFormed.{rowsFit, withinLimits, question2}
 use Rattle.rules.specs.Messages.{understood, bodyIn}
-use Rattle.rules.specs.Basics.{listTo}
-use Rattle.rules.specs.Effects.{supplierOf, elementOf, recordOf, told, isRound, written, records, sentAfter, tablesAfter, linesAfter, posted, ask, question17, question18, answerTo, askBook, answer, accepted, stepBy, step, writtenBy, recordsOf}
-use Rattle.rules.proofs.Tests.{cases, both}
+use Rattle.rules.specs.Effects.{told, withBlocks, isRound, written, records, sentAfter, tablesAfter, linesAfter, posted, ask, question17, question18, answerTo, askBook, answer, accepted, stepBy, step, writtenBy, recordsOf}
+use Rattle.rules.specs.Lent.{Lists, worldIn, openingIn, tablesIn, lendMoney, lendBlocks}
 use Rattle.rules.specs.Whole.{Whole}
 use Rattle.rules.specs.Ready.{Ready}
+use Rattle.rules.proofs.Tests.{cases, both}
+use Rattle.rules.proofs.Parts.{formed}
+use Rattle.rules.proofs.BookLaws.{whole-asked}
 use Rattle.rules.proofs.Passed.{behind, taken}
 use Rattle.rules.proofs.Kept.{posted-whole}
-use Rattle.book.proofs.Passes.{book-refused}
 use Rattle.validation.specs.Decided.{decided}
 use Rattle.validation.proofs.Next.{answer-decided, decided-passed, decided-refused}
-use Rattle.ledger.proofs.MovedLines.{moved-none}
-use Rattle.ledger.specs.Moved.{linesIn, IsWorld, Settled, Listed}
+use Rattle.recording.specs.Recorded.{writesRow}
+use Rattle.recording.proofs.Leaves.{block-left, recorded-world}
+use Rattle.ledger.specs.Moved.{linesIn, lineRecords, movedCount}
 use Rattle.ledger.specs.RecordNumbers.{numbersAfter}
-use Rattle.ledger.proofs.Sending.{other-written, other-sent, round-written}
+use Rattle.ledger.proofs.RecordNumbers.{numbers-none}
+use Rattle.ledger.proofs.MovedLines.{moved-none}
+use Rattle.ledger.proofs.RoundLaws.{count-is, round-records, round-written, round-sent, other-written, other-sent}
 use Rattle.settlement.specs.declared.Reply.{Reply}
-use Rattle.settlement.proofs.Rounding.{fits-18}
-use Rattle.settlement.specs.Replies.{roomIn, movedOn, Applied, Sending, Answered, Due, Replied}
+use Rattle.settlement.specs.Replies.{roomIn, movedOn, Applied, withRound, Sending, Replied}
 
 -- ---- answers that refuse and answers that accept
 
@@ -50,34 +56,29 @@ module _ (w : World) (f : Fields) (room : ℕ) where
   accepted-some h m u = rw (h, u)
 
 -- a refusal leaves everything as it was
-pub answered-refused : (w : World) (f : Fields) (room : ℕ) (r : Reply) (n : ℕ) → answer w f room ≡ n → n ≢ 0 → numberOf (r .answer) ≡ n → r .records ≡ 0 → Answered w w f r room
+pub replied-refused : (w after : World) (f : Fields) (r : Reply) (lent out : List ℤ) (n : ℕ) → answer w f (roomIn lent) ≡ n → n ≢ 0
+    → numberOf (r .answer) ≡ n → after ≡ w → out ≡ lent → r .records ≡ 0 → Replied w after f r lent out
 unfolding step stepBy recordsOf writtenBy
-answered-refused w f room r n e z a k =
-    let q = refused-none w f room (λ y. z (sym e ∙ y)) in
-    record {
-      number = a ∙ sym e;
-      world = rw q;
-      count = rw q k;
-    }
+replied-refused w after f r lent out n e z a v l k =
+    let q = refused-none w f (roomIn lent) (λ y. z (sym e ∙ y)) in
+    record { number = a ∙ sym e; world = v ∙ rw q; list = l ∙ rw q (numbers-none lent); count = rw q k }
 
 -- and an acceptance leaves the world with the message posted
-answered-accepted : (w after : World) (f : Fields) (room : ℕ) (r : Reply) (m : Message) → understood (w .opening .suppliers) f ≡ some m → answer w f room ≡ 0 → numberOf (r .answer) ≡ 0
-    → after ≡ posted w (m .body) → r .records ≡ length (written w (m .body)) → Answered w after f r room
+replied-accepted : (w after : World) (f : Fields) (r : Reply) (lent out : List ℤ) (m : Message)
+    → understood (w .opening .suppliers) f ≡ some m → answer w f (roomIn lent) ≡ 0 → numberOf (r .answer) ≡ 0
+    → after ≡ posted w (m .body) → out ≡ numbersAfter (written w (m .body)) lent → r .records ≡ length (written w (m .body))
+    → Replied w after f r lent out
 unfolding step stepBy recordsOf writtenBy
-answered-accepted w after f room r m u e a v k =
-    let q = accepted-some w f room e m u in
-    record {
-      number = a ∙ sym e;
-      world = rw q v;
-      count = rw q k;
-    }
+replied-accepted w after f r lent out m u e a v l k =
+    let q = accepted-some w f (roomIn lent) e m u in
+    record { number = a ∙ sym e; world = rw q v; list = rw q l; count = rw q k }
 
--- ---- of a whole book
+-- ---- of a well-formed book
 
 module _ (w : World) (c : Whole w) (f : Fields) (room : ℕ) where
   asked-whole : answer w f room ≡ answerTo w (understood (w .opening .suppliers) f) room
-  unfolding answer askBook ask
-  asked-whole = rw (c .limited, c .sized, c .elements, c .right)
+  unfolding answer
+  asked-whole = whole-asked w c _
 
   -- question 6
   pub answer-none : understood (w .opening .suppliers) f ≡ none → answer w f room ≡ 6
@@ -103,7 +104,8 @@ module _ (w : World) (c : Whole w) (f : Fields) (room : ℕ) where
       late : (n : ℕ) → 2 ≤ n → n ≤ 16 → n ≢ rest
       unfolding ask
       late n i j = cases (question17 w (m .body))
-          (λ a. cases (question18 w (m .body) room) (λ b e. let z : n ≡ 0 = rw (a, b) at e in omega arith) (λ b e. let z : n ≡ 18 = rw (a, b) at e in omega arith))
+          (λ a. cases (question18 w (m .body) room)
+          (λ b e. let z : n ≡ 0 = rw (a, b) at e in omega arith) (λ b e. let z : n ≡ 18 = rw (a, b) at e in omega arith))
           (λ a e. let z : n ≡ 17 = rw a at e in omega arith)
 
       -- the message is ready to be told
@@ -124,87 +126,141 @@ moved-posted : (w : World) (b : Body) → isRound b ≡ false → movedOn w b �
 unfolding movedOn posted
 moved-posted w b h = rw (other-sent w b h)
 
-pub answered-applied : (w after : World) → Whole w → (f : Fields) (room : ℕ) (r : Reply) (m : Message) → understood (w .opening .suppliers) f ≡ some m
-    → decided (w .opening) (w .position .tables) m 0 ≡ 0 → isRound (m .body) ≡ false → Applied w after (m .body) (numberOf (r .answer)) → r .records ≡ 0 → Answered w after f r room
+pub replied-applied : (w after : World) → Whole w → (f : Fields) (r : Reply) (lent : List ℤ) (m : Message)
+    → understood (w .opening .suppliers) f ≡ some m → decided (w .opening) (w .position .tables) m 0 ≡ 0
+    → (b : Body) → m .body ≡ b → isRound b ≡ false → Applied w after b (numberOf (r .answer)) → r .records ≡ 0
+    → Replied w after f r lent lent
 unfolding ask
-answered-applied w after c f room r m u p o g k =
-    let e : answer w f room ≡ ask (question17 w (m .body)) 17 0 = answer-rest w c f room m u p ∙ rw (other-fits w (m .body) room o) in
-    cases (question17 w (m .body))
-    (λ t. answered-accepted w after f room r m u (e ∙ rw t) (g .number-is ∙ rw t) (g .world ∙ rw t (moved-posted w (m .body) o)) (rw (other-written w (m .body) o) k))
-    (λ t. let z : after ≡ w = g .world ∙ rw t in
-    rw z (answered-refused w f room r 17 (e ∙ rw t) (λ y. omega arith) (g .number-is ∙ rw t) k))
+replied-applied w after c f r lent m u p b h o g k =
+    let e : answer w f (roomIn lent) ≡ ask (question17 w b) 17 0 =
+        answer-rest w c f (roomIn lent) m u p ∙ rw (h, other-fits w b (roomIn lent) o) in
+    cases (question17 w b)
+    (λ t. replied-accepted w after f r lent lent m u (e ∙ rw t) (g .number-is ∙ rw t) (g .world ∙ rw (t, h) (moved-posted w b o))
+    (rw (h, other-written w b o) (numbers-none lent)) (rw (h, other-written w b o) k))
+    (λ t. replied-refused w after f r lent lent 17 (e ∙ rw t) (λ y. omega arith) (g .number-is ∙ rw t) (g .world ∙ rw t) refl k)
+
+-- messages 1 to 5 are no round
+pub row-no-round : (b : Body) → writesRow b ≡ true → isRound b ≡ false
+unfolding writesRow isRound
+row-no-round (Link p e d q) h = refl
+row-no-round (Stop p e d) h = refl
+row-no-round (Quantity p e d q) h = refl
+row-no-round (Holder p d v) h = refl
+row-no-round (State p d v) h = refl
+row-no-round (Reading p d k n) h = refl
+row-no-round (Block p v) h = refl
+row-no-round Round h = absurd (false≢true h)
+
+-- and what the tag of a round says
+pub round-is : (b : Body) → OneOf (7 ∷ []) (tagOf the-type b) → b ≡ Round
+round-is (Link p e d q) h = absurd (miss (7 ∷ []) 0 tt h)
+round-is (Stop p e d) h = absurd (miss (7 ∷ []) 1 tt h)
+round-is (Quantity p e d q) h = absurd (miss (7 ∷ []) 2 tt h)
+round-is (Holder p d v) h = absurd (miss (7 ∷ []) 3 tt h)
+round-is (State p d v) h = absurd (miss (7 ∷ []) 4 tt h)
+round-is (Reading p d k n) h = absurd (miss (7 ∷ []) 5 tt h)
+round-is (Block p v) h = absurd (miss (7 ∷ []) 6 tt h)
+round-is Round h = refl
+
+-- ---- messages that change no fact: question 17 passes, since tables and lines fit as before
+
+module _ (w : World) (c : Whole w) (b : Body) (same : factsOf (w .opening) (told (w .opening) (w .position .tables) b) ≡ factsOf (w .opening) (w .position .tables))
+    (rows : rowsFit (told (w .opening) (w .position .tables) b) ≡ rowsFit (w .position .tables)) where
+  lines-still : linesAfter w b ≡ w .position .lines
+  unfolding linesAfter tablesAfter
+  lines-still = moved-none w c (told (w .opening) (w .position .tables) b) same
+
+  still-fits : question17 w b ≡ true
+  unfolding question17 tablesAfter question2
+  still-fits = rw (rows, both (withinLimits (w .opening)) (rowsFit (w .position .tables)) (c .limited) .1, lines-still) (formed w c .lines)
+
+-- message 7
+pub block-applied : (b : Book) (o : Lists) → Whole (worldIn b o) → (p v : ℕ) (blocks : List ℕ) → blocks ≡ set (o .blocks) p v
+    → (r : Book) → r ≡ b → (n : ℕ) → n ≡ 0 → Applied (worldIn b o) (worldIn r (lendBlocks blocks o)) (Block p v) n
+unfolding ask movedOn tablesAfter
+block-applied b o c p v blocks e r k n z =
+    let w = worldIn b o in
+    let t = tablesIn b o in
+    let same : factsOf (openingIn b o) (told (openingIn b o) t (Block p v)) ≡ factsOf (openingIn b o) t =
+        unfold told withBlocks factsOf holderOn stateOn energyOf in refl in
+    let rows : rowsFit (told (openingIn b o) t (Block p v)) ≡ rowsFit t = unfold told withBlocks rowsFit in refl in
+    let h = still-fits w c (Block p v) same rows in
+    let after = lendBlocks (set (o .blocks) p v) o in
+    record {
+      number-is = rw h z;
+      world = ap₂ (λ (x : Book) (y : List ℕ). worldIn x (lendBlocks y o)) k e
+          ∙ rw h (recorded-world b b o after (Block p v) (block-left b o p v) refl refl ∙ rw (lines-still w c (Block p v) same rows));
+    }
 
 -- ---- message 8
 
--- question 17 passes: tables and lines stay as they are
-round-fits-17 : (w : World) → Whole w → question17 w Round ≡ true
-unfolding question17 tablesAfter linesAfter told question2 question3 question5 linesSized
-round-fits-17 w c =
-    let o = w .opening in
-    let t = w .position .tables in
-    let f = both (withinLimits o) (rowsFit t) (c .limited) .1 in
-    let s = both (tablesSized o t) _ (both (openingSized o) _ (c .sized) .1) .1 in
-    let l = eqb-true _ _ (both (eqb (length (w .position .lines)) (linePlaces o)) _ s .0) in
-    let r = both (linesRight o (w .position .lines)) _ (both (tablesRight o t) _ (c .right) .1) .0 in
-    rw (f, moved-none o (w .position .lines) t l r) r
+module _ (b : Book) (o : Lists) (c : Whole (worldIn b o)) where
+  abbrev w : World
+  w = worldIn b o
 
-round-position : (w : World) → Whole w → _≡_ {A = Position} (record { tables = tablesAfter w Round; lines = linesAfter w Round }) (w .position)
-unfolding tablesAfter linesAfter told question3 question5 linesSized
-round-position w c =
-    let o = w .opening in
-    let t = w .position .tables in
-    let s = both (tablesSized o t) _ (both (openingSized o) _ (c .sized) .1) .1 in
-    let l = eqb-true _ _ (both (eqb (length (w .position .lines)) (linePlaces o)) _ s .0) in
-    let r = both (linesRight o (w .position .lines)) _ (both (tablesRight o t) _ (c .right) .1) .0 in
-    ap (λ (x : List ℤ). record { tables = t; lines = x }) (moved-none o (w .position .lines) t l r)
+  round-fits : question17 w Round ≡ true
+  round-fits = still-fits w c Round (unfold told in refl) (unfold told in refl)
 
--- the world of a book after a round
-module _ (b : Book) (ds : List ℕ) (ps : List ℤ) (ls hs ss rs bs : List ℕ) (lines ts : List ℤ) (r : Reply) (totals : List ℤ) (room : ℕ) where
-  abbrev sw : World
-  sw = worldOf b ds ps ls hs ss rs bs lines ts
+  round-posted : (totals : List ℤ) → totals ≡ o .lines → (n : ℕ) → n ≡ min 3 (b .round + 1)
+      → worldIn (withRound b n) (lendMoney (o .lines) totals o) ≡ posted w Round
+  unfolding posted tablesAfter told
+  round-posted totals e n h = rw (lines-still w c Round (unfold told in refl) (unfold told in refl), round-sent w totals n e h)
 
-  abbrev after : World
-  after = worldOf (r .book) ds ps ls hs ss rs bs lines totals
+  pub replied-sent : (f : Fields) (r : Reply) (lent out : List ℤ) (m : Message) → understood (b .suppliers) f ≡ some m
+      → decided (w .opening) (w .position .tables) m 0 ≡ 0 → m .body ≡ Round → (totals : List ℤ) → Sending w b r totals lent out
+      → Replied w (worldIn (r .book) (lendMoney (o .lines) totals o)) f r lent out
+  unfolding ask
+  replied-sent f r lent out m u p d totals g =
+      let e : answer w f (roomIn lent) ≡ ask (question18 w Round (roomIn lent)) 18 0 =
+          answer-rest w c f (roomIn lent) m u p ∙ rw (d, round-fits) in
+      cases (question18 w Round (roomIn lent))
+      (λ t.
+      let k : r .book ≡ withRound b (min 3 (b .round + 1)) = g .book ∙ rw t in
+      let s : totals ≡ o .lines = g .sent ∙ rw t in
+      let l : out ≡ numbersAfter (records w) lent = g .list ∙ rw t in
+      let n : r .records ≡ length (records w) = g .count ∙ rw t in
+      replied-accepted w _ f r lent out m u (e ∙ rw t) (g .number-is ∙ rw t)
+      (ap (λ (x : Book). worldIn x (lendMoney (o .lines) totals o)) k ∙ round-posted totals s (min 3 (b .round + 1)) refl ∙ rw d) (rw (d, round-written w) l) (rw (d, round-written w) n))
+      (λ t.
+      let k : r .book ≡ b = g .book ∙ rw t in
+      let s : totals ≡ o .sent = g .sent ∙ rw t in
+      let l : out ≡ lent = g .list ∙ rw t (sym (numbers-none lent)) in
+      let n : r .records ≡ 0 = g .count ∙ rw t in
+      replied-refused w _ f r lent out 18 (e ∙ rw t) (λ y. omega arith) (g .number-is ∙ rw t)
+      (ap₂ (λ (x : Book) (y : List ℤ). worldIn x (lendMoney (o .lines) y o)) k s) l n)
 
-  after-is : Sending sw b r totals room
-      → after ≡ record { opening = sw .opening; position = sw .position; sent = cond (question18 sw Round room) (sentAfter sw Round) (sw .sent) }
-  after-is g =
-      let o = g .opening ds ps in
-      let n = g .rows in
-      let s = g .sent in
-      λ i. record {
-        opening = o i;
-        position = record {
-          tables = record {
-            links = record { used = n .0 i; words = ls };
-            holders = record { used = n .1 i; words = hs };
-            states = record { used = n .2 i; words = ss };
-            readings = rs;
-            blocks = bs;
-          };
-          lines = lines;
-        };
-        sent = s i;
+-- what the code's count says: question 18, and then the records
+module _ (b : Book) (o : Lists) (ls ts lent : List ℤ) (n : ℕ) (e : n ≡ movedCount ls ts (linesIn b)) (r : Reply) where
+  abbrev money : World
+  money = worldIn b (lendMoney ls ts o)
+
+  room-is : question18 money Round (roomIn lent) ≡ leb n (roomIn lent)
+  unfolding question18
+  room-is = ap (λ (x : ℕ). leb x (roomIn lent))
+      (ap length (round-written money ∙ round-records b ls ts o) ∙ count-is b ls ts (linesIn b) ∙ sym e)
+
+  pub sent-records : n ≤ roomIn lent → numberOf (r .answer) ≡ 0 → r .book ≡ withRound b (min 3 (b .round + 1)) → r .records ≡ n
+      → (totals out : List ℤ) → totals ≡ ls → out ≡ numbersAfter (lineRecords b ls ts (linesIn b)) lent → Sending money b r totals lent out
+  unfolding ask
+  sent-records h a k c totals out s l =
+      let q = room-is ∙ le-leb n (roomIn lent) h in
+      record {
+        number-is = rw q a;
+        book = rw q k;
+        sent = rw q s;
+        list = rw (q, round-records b ls ts o) l;
+        count = rw (q, round-records b ls ts o, count-is b ls ts (linesIn b)) (c ∙ e);
       }
 
-  pub answered-sent : Whole sw → (f : Fields) (m : Message) → understood (b .suppliers) f ≡ some m
-      → decided (sw .opening) (sw .position .tables) m 0 ≡ 0 → m .body ≡ Round → Sending sw b r totals room → Answered sw after f r room
-  unfolding ask posted
-  answered-sent c f m u p o g =
-      let q = round-fits-17 sw c in
-      let e : answer sw f room ≡ ask (question18 sw Round room) 18 0 = answer-rest sw c f room m u p ∙ rw (o, q) in
-      let v = after-is g in
-      cases (question18 sw Round room)
-      (λ t. let z : after ≡ record { opening = sw .opening; position = sw .position; sent = sentAfter sw Round } = v ∙ rw t in
-      answered-accepted sw after f room r m u (e ∙ rw t) (g .number-is ∙ rw t)
-      (rw o (z ∙ ap (λ (x : Position). record { opening = sw .opening; position = x; sent = sentAfter sw Round }) (sym (round-position sw c))))
-      (rw (o, round-written sw) (g .count ∙ rw t)))
-      (λ t. let z : after ≡ sw = v ∙ rw t in
-      rw z (answered-refused sw f room r 18 (e ∙ rw t) (λ x. omega arith) (g .number-is ∙ rw t) (g .count ∙ rw t)))
+  pub sent-nothing : roomIn lent < n → numberOf (r .answer) ≡ 18 → r .book ≡ b → r .records ≡ 0 → Sending money b r ts lent lent
+  unfolding ask
+  sent-nothing h a k c =
+      let q = room-is ∙ lt-leb n (roomIn lent) h in
+      record { number-is = rw q a; book = rw q k; sent = rw q; list = rw q (numbers-none lent); count = rw q c }
 
--- ---- a whole book stays whole
+-- ---- a well-formed book stays so
 
-pub step-whole : (w : World) (f : Fields) (room : ℕ) → Whole w → Whole (step w f room)
+step-whole : (w : World) (f : Fields) (room : ℕ) → Whole w → Whole (step w f room)
 unfolding step stepBy
 step-whole w f room c = by (accepted w f room) refl
   where
@@ -212,89 +268,5 @@ step-whole w f room c = by (accepted w f room) refl
     by none e = c
     by (some b) e = let k = taken w f room b e in posted-whole w b c (k .ready) (k .fits)
 
-pub answered-whole : (w after : World) (f : Fields) (r : Reply) (room : ℕ) → Whole w → Answered w after f r room → Whole after
-answered-whole w after f r room c g = rw (g .world) (step-whole w f room c)
-
--- questions 2 to 5
-pub answer-book : (w : World) (f : Fields) (room : ℕ) → askBook w 0 ≢ 0 → answer w f room ≡ askBook w 0
-unfolding answer
-answer-book w f room h = book-refused w h _
-
--- a body that the test says to be a round is one
-pub is-round : (b : Body) → isRound b ≡ true → b ≡ Round
-unfolding isRound
-is-round (Body.Link p e d q) h = absurd (false≢true h)
-is-round (Body.Stop p e d) h = absurd (false≢true h)
-is-round (Body.Quantity p e d q) h = absurd (false≢true h)
-is-round (Body.Holder p d v) h = absurd (false≢true h)
-is-round (Body.State p d v) h = absurd (false≢true h)
-is-round (Body.Reading p d k n) h = absurd (false≢true h)
-is-round (Body.Block p v) h = absurd (false≢true h)
-is-round Body.Round h = refl
-
--- ---- the records that are due
-
--- none where the message is no accepted round
-pub due-none : (w : World) (b : Book) (ls ts : List ℤ) (f : Fields) (room : ℕ) (moved : List ℕ) → recordsOf w f room ≡ [] → Due w b ls ts f room moved 0
-unfolding listTo
-due-none w b ls ts f room moved e =
-    record { few = omega arith; listed = omega arith; settled = λ l. absurd (omega arith); below = λ i l. absurd (omega arith); records = e }
-
-no-records : (w : World) (f : Fields) (room : ℕ) → answer w f room ≢ 0 → recordsOf w f room ≡ []
-unfolding recordsOf writtenBy
-no-records w f room h = rw (refused-none w f room h)
-
--- a refused message
-pub due-refused : (w : World) (b : Book) (ls ts : List ℤ) (f : Fields) (room : ℕ) (moved : List ℕ) → answer w f room ≢ 0 → Due w b ls ts f room moved 0
-due-refused w b ls ts f room moved h = due-none w b ls ts f room moved (no-records w f room h)
-
--- a message that is no round
-pub due-other : (w : World) (b : Book) (ls ts : List ℤ) (f : Fields) (room : ℕ) (moved : List ℕ) (m : Message) → understood (w .opening .suppliers) f ≡ some m → isRound (m .body) ≡ false
-    → Due w b ls ts f room moved 0
-unfolding recordsOf writtenBy
-due-other w b ls ts f room moved m u n = due-none w b ls ts f room moved (by (accepted w f room) refl)
-  where
-    by : (x : Option Body) → accepted w f room ≡ x → writtenBy w x ≡ []
-    by none e = refl
-    by (some y) e =
-        let k = taken w f room y e in
-        let v : some (k .message) ≡ some m = sym (k .is) ∙ u in
-        let z : k .message ≡ m = cc in
-        let q : isRound y ≡ false = subst (λ (x : Body). isRound x ≡ false) (ap (λ (x : Message). x .body) (sym z) ∙ k .body) n in
-        other-written w y q
-
--- a round: all that moved where they fit, else none
-module _ (w : World) (c : Whole w) (b : Book) (ls ts : List ℤ) (h : IsWorld w b ls ts) (f : Fields) (room : ℕ) (m : Message) (u : understood (w .opening .suppliers) f ≡ some m)
-    (p : decided (w .opening) (w .position .tables) m 0 ≡ 0) (o : isRound (m .body) ≡ true) (lent moved : List ℕ) (n : ℕ) (l : Listed b ls ts lent moved n) where
-  round-answer : answer w f room ≡ ask (question18 w Round room) 18 0
-  unfolding ask
-  round-answer = answer-rest w c f room m u p ∙ rw (is-round (m .body) o, round-fits-17 w c)
-
-  pub due-round : n ≤ room → Settled b ls ts → b .round ≤ 3 → linesIn b ≤ 1024 → Due w b ls ts f room moved n
-  unfolding ask recordsOf writtenBy
-  due-round k s r z =
-      let q = fits-18 w b ls ts h lent moved n l room true (le-leb n room k) in
-      let e = accepted-some w f room (round-answer ∙ rw q) m u in
-      record {
-        few = k;
-        listed = omega (arith, l .few);
-        settled = λ _. (s, r);
-        below = l .below;
-        records = rw (e, is-round (m .body) o) (round-written w ∙ l .sent w h);
-      }
-
-  pub due-full : room < n → Due w b ls ts f room moved 0
-  unfolding ask
-  due-full k =
-      let q = fits-18 w b ls ts h lent moved n l room false (lt-leb n room k) in
-      due-refused w b ls ts f room moved (λ e. let z : 18 ≡ 0 = sym (round-answer ∙ rw q) ∙ e in omega arith)
-
--- ---- the list of records as numbers
-
-pub due-numbers : (w : World) (b : Book) (ls ts : List ℤ) (f : Fields) (lent out : List ℤ) (moved : List ℕ) (n : ℕ) → IsWorld w b ls ts → Due w b ls ts f (roomIn lent) moved n
-    → ((v : World) → IsWorld v b ls ts → out ≡ numbersAfter (listTo (λ i. recordOf v (supplierOf (v .opening) (getD moved i 0)) (elementOf (v .opening) (getD moved i 0))) n) lent)
-    → out ≡ numbersAfter (recordsOf w f (roomIn lent)) lent
-due-numbers w b ls ts f lent out moved n h d p = p w h ∙ ap (λ rs. numbersAfter rs lent) (sym (d .records))
-
-pub replied-with : (w after : World) (f : Fields) (r : Reply) (lent out : List ℤ) → Answered w after f r (roomIn lent) → out ≡ numbersAfter (recordsOf w f (roomIn lent)) lent → Replied w after f r lent out
-replied-with w after f r lent out a e = record { number = a .number; world = a .world; list = e; count = a .count }
+pub replied-whole : {w after : World} {f : Fields} {r : Reply} {lent out : List ℤ} → Whole w → Replied w after f r lent out → Whole after
+replied-whole {w = w} {f = f} {lent = lent} c g = rw (g .world) (step-whole w f (roomIn lent) c)
