@@ -1,13 +1,14 @@
 -- A message that has passed questions 2 to 16: its changes are the rules', so question 17 and what is written are the rules' too.
 use Prim.Native.Nat.{ℕ, zero, suc, _*_, _≤_, _<_}
 use mathlib.Core.Path.{_≡_, refl, sym, ap, ap₂, _∙_}
-use mathlib.Core.Bool.{Bool, true, false, _&&_}
+use mathlib.Core.Bool.{Bool, true, false, _&&_, false≢true}
 use mathlib.Core.List.{List}
 use lib.IntN.{ℤ, pos, _+ℤ_, +ℤ-idl}
 use lib.ListN.{length, getD, replicate, length-replicate}
 use native.Mathlib.Omega.{arith}
 use Rattle.rules.specs.declared.Book.{Book}
 use Rattle.rules.specs.declared.Body.{Body}
+use Rattle.rules.specs.declared.Body.the-variants.{Link, Stop, Quantity, Holder, State, Reading, Block, Round}
 use Rattle.rules.specs.Basics.{allTo}
 use Rattle.rules.specs.Lines.{Measure}
 use Rattle.rules.specs.Sizes.{lineSize, mostElements, mostLines}
@@ -19,10 +20,10 @@ use Rattle.rules.proofs.Parts.{few-lines, lengths}
 use Rattle.tables.proofs.Right.{whole-rows}
 use Rattle.posting.specs.Fits.{Room, beforeMessage}
 use Rattle.posting.specs.Kinds.{changeAt}
-use Rattle.posting.specs.Posted.{Posted, PostedBoth, Postable, PostableIn, PostedIn}
+use Rattle.posting.specs.Posted.{Posted, PostableIn, PostedIn, isReading}
 use Rattle.posting.proofs.Sizes.{change-small}
 use Rattle.posting.proofs.WholeBook.{whole-book}
-use Rattle.recording.specs.Recorded.{RecordedAs}
+use Rattle.recording.specs.Recorded.{RecordedAs, writesRow}
 use Rattle.recording.proofs.Leaves.{recorded-world}
 use Rattle.ledger.specs.Added.{addedLines, Changes, ByRules}
 use Rattle.ledger.specs.Moved.{linesIn}
@@ -42,6 +43,18 @@ postable b o body r =
       holders = rows .holders;
       states = rows .states;
     }
+
+-- messages 1 to 5 are no reading
+pub row-no-reading : (b : Body) → writesRow b ≡ true → isReading b ≡ false
+unfolding writesRow isReading
+row-no-reading (Link p e d q) h = refl
+row-no-reading (Stop p e d) h = refl
+row-no-reading (Quantity p e d q) h = refl
+row-no-reading (Holder p d v) h = refl
+row-no-reading (State p d v) h = refl
+row-no-reading (Reading p d k n) h = absurd (false≢true h)
+row-no-reading (Block p v) h = refl
+row-no-reading Round h = refl
 
 -- ---- tables of changes that begin at 0
 

@@ -1,11 +1,10 @@
 -- The answers of the inner functions, said in numbers.
 use Prim.Native.Nat.{ℕ, _+_, _≤_, _<_}
 use native.Mathlib.Omega.{arith}
-use mathlib.Core.Path.{_≡_, sym, ap, _∙_}
+use mathlib.Core.Path.{_≡_, refl, sym, ap, subst, _∙_}
 use mathlib.Core.Logic.{_≢_}
 use mathlib.Core.Bool.{Bool, true, false, _&&_}
 use mathlib.Core.List.{List}
-use mathlib.Core.Option.{Option, none, some}
 use lib.Dec.{T, eqb, leb, ltb, ltb→lt}
 use lib.IntN.{ℤ}
 use lib.ListN.{length, take, length-take}
@@ -16,12 +15,12 @@ use Rattle.rules.specs.declared.Book.{Book}
 use Rattle.rules.specs.declared.Fields.{Fields}
 use Rattle.rules.specs.declared.LineAnswer.{LineAnswer}
 use Rattle.rules.specs.declared.DayAnswer.{DayAnswer}
-use Rattle.rules.specs.declared.Opened.{Opened}
 use Rattle.rules.specs.Lines.{Measure}
-use Rattle.rules.specs.Basics.{when}
-use Rattle.rules.specs.World.{World, Opening, Tables, bookOf, monthFirst, monthDays, stored, rowsOf}
+use Rattle.rules.specs.World.{World, Opening, Tables, monthFirst, monthDays, stored, rowsOf}
 use Rattle.rules.specs.Questions.{question16}
-use Rattle.rules.specs.Opening.{openingAnswer, afterOpening}
+use Rattle.rules.specs.Opening.{openingAnswer, opened, afterOpening}
+use Rattle.rules.specs.Effects.{askBook}
+use Rattle.rules.specs.Lent.{Lists, worldIn}
 use Rattle.rules.specs.Queries.{LineResult, lineNumber, lineQuery, lineNamed, lineRefused, periodsNumber, periodsQuery, dayNumber, lacksHolder}
 use Rattle.rules.specs.Answers.{numberOf, lineResult}
 use Rattle.rules.proofs.Tests.{cases}
@@ -29,14 +28,17 @@ use Rattle.rules.specs.Whole.{Whole}
 use Rattle.rules.proofs.Stored.{billionths-lt}
 use Rattle.rules.proofs.LineQuery.{query-stored}
 use Rattle.rules.proofs.Begin.{passed, begin-whole}
-use Rattle.book.proofs.Passes.{measured}
-use Rattle.queries.specs.Promises.{OpenedAs, LineAnswered, DayTold}
-use Rattle.queries.proofs.Opens.{began}
+use Rattle.rules.proofs.Parts.{lengths}
+use Rattle.rules.proofs.BookLaws.{book-refused}
+use Rattle.recording.specs.Opened.{freshBook, cleared}
+use Rattle.recording.proofs.ClearLaws.{opened-cleared}
+use Rattle.queries.specs.Promises.{LineAnswered, DayTold}
 use Rattle.queries.proofs.Asks.{line-passed, day-passed}
+use Rattle.queries.proofs.Answered.{line-refused, periods-refused}
 use Rattle.settlement.specs.declared.Reply.{Reply}
 use Rattle.settlement.specs.Replies.{Replied}
-use Rattle.settlement_book.specs.Numbers.{numbersIn, lineNumbers, lineAfter, InKrone, dayAfter, dayAnswerNumber}
-use Rattle.settlement_book.specs.Promises.{OpensIn, RepliesIn, LineIn, DayIn}
+use Rattle.settlement_book.specs.Numbers.{bookIn, numbersIn, lineNumbers, lineAfter, InKrone, dayAfter, dayAnswerNumber}
+use Rattle.settlement_book.specs.Promises.{OpensIn, RepliesIn, LineIn, PeriodsIn, DayIn}
 use Rattle.settlement_book.proofs.Lists.{pair-length}
 
 left : (a b : Bool) → T (a && b) → T a
@@ -86,6 +88,13 @@ module _ (w : World) (s e : ℕ) where
         settled = λ w₀ vs x y z. absurd (not-zero _ (h .told) (sym (refused-number a h) ∙ ap (λ (x : LineResult). x .number) (h .settled w₀ vs x y z)));
       }
 
+  -- of a book that is not well formed
+  pub line-no-book : (a : Answer) → numberOf a ≡ askBook w 0 → numberOf a ≢ 0 → (n : ℕ) → n ≡ numberOf a → (lent : List ℤ) → LineIn w s e n lent lent
+  unfolding lineNumber
+  line-no-book a h z n i lent =
+      let k : numberOf a ≡ lineNumber w s e = h ∙ sym (book-refused w (λ x. z (h ∙ x)) _) in
+      line-in-numbers (LineAnswer.Refused a) (line-refused w s e (λ x. z (k ∙ x)) a k) n (unfold lineRefused in i) lent lent refl
+
 -- ---- the periods
 
 pub periods-length : (w : World) (p e : ℕ) → length (periodsQuery w p e) ≤ length (w .position .tables .links .words)
@@ -95,6 +104,13 @@ periods-length w p e =
     let h = pair-length p e (take (t .used) (t .words)) in
     let k = length-take (t .used) (t .words) in
     cases (eqb (periodsNumber w p e) 0) (λ x. rw x (omega arith)) (λ x. rw x (omega arith))
+
+pub periods-no-book : (w : World) (p e : ℕ) (n : ℕ) → n ≡ askBook w 0 → n ≢ 0 → (lent : List ℕ) → PeriodsIn w p e n 0 lent lent
+unfolding periodsNumber
+periods-no-book w p e n h z lent =
+    let k : n ≡ periodsNumber w p e = h ∙ sym (book-refused w (λ x. z (h ∙ x)) _) in
+    let q = periods-refused w p e (λ x. z (k ∙ x)) in
+    record { number = k; count = ap length q; rows = rw (← q) }
 
 -- ---- a day without a holder
 
@@ -113,7 +129,7 @@ day-in-numbers w p (DayAnswer.Day d) h n i lent out j =
       refused = λ k. absurd (k i);
       named = λ k l. rw j (h .holds);
       none = λ k l. let f = day-passed w p z .0 in
-          let m = measured w (f .limited) (f .sized) .limits .month in
+          let m = lengths w f .limited .month in
           let a = month-within (w .opening .year) (w .opening .month) m in
           let b = day-in-month (w .opening) (w .position .tables) p d (h .holds .lacks) in
           absurd (omega arith);
@@ -134,26 +150,41 @@ day-in-numbers w p (DayAnswer.Refused a) h n i lent out j =
       none = λ k. absurd (not-zero _ (h .told) (sym z ∙ k));
     }
 
+pub day-no-book : (w : World) (p : ℕ) (a : Answer) → numberOf a ≡ askBook w 0 → numberOf a ≢ 0 → (n : ℕ) → n ≡ numberOf a → (lent : ℕ)
+    → DayIn w p n lent lent
+unfolding dayNumber
+day-no-book w p a h z n i lent =
+    let k : numberOf a ≡ dayNumber w p = h ∙ sym (book-refused w (λ x. z (h ∙ x)) _) in
+    day-in-numbers w p (DayAnswer.Refused a) (record { told = sym (ne-eqb _ _ (λ x. z (k ∙ x))); holds = k }) n i lent lent refl
+
 -- ---- an opening
 
 -- one that is accepted leaves a well-formed book
-pub opened-whole : (w after : World) → after ≡ afterOpening w → openingAnswer w ≡ 0 → Whole after
+pub opened-whole : (w after : World) → after ≡ opened w → openingAnswer w ≡ 0 → Whole after
+opened-whole w after h k = rw h (begin-whole w (passed w k))
+
+module _ (year month points suppliers elements : ℕ) (o after : Lists) where
+  abbrev fresh : Book
+  fresh = freshBook year month points suppliers elements
+
+  module _ (h : openingAnswer (worldIn fresh o) ≡ 0) (e : after ≡ cleared o) where
+    pub opens-world : worldIn fresh after ≡ opened (worldIn fresh o)
+    opens-world = ap (worldIn fresh) e ∙ opened-cleared year month points suppliers elements o h
+
+    pub opens-in : (lent out : List ℕ) → out ≡ numbersIn fresh → OpensIn (worldIn fresh o) (worldIn fresh after) lent out 0
+    unfolding afterOpening
+    opens-in lent out k = record { number = sym h; book = rw h k; world = rw h opens-world }
+
+-- a book whose numbers were put
+pub put-whole : (b : Book) (o : Lists) (out : List ℕ) → out ≡ numbersIn b → Whole (worldIn b o) → Whole (worldIn (bookIn out) o)
+put-whole b o out e h = subst (λ (x : List ℕ). Whole (worldIn (bookIn x) o)) (sym e) h
+
+-- one that is refused leaves everything as it was
+pub stays-in : (w after : World) (r : ℕ) (lent : List ℕ) → r ≡ openingAnswer w → r ≢ 0 → after ≡ w → OpensIn w after lent lent r
 unfolding afterOpening
-opened-whole w after h k = rw (h, k) (begin-whole w (passed w k))
-
-pub opens-in : (w after : World) (b : Book) (lent out : List ℕ) → OpenedAs w after (Opened.Book b) → out ≡ numbersIn b → OpensIn w after lent out 0
-opens-in w after b lent out h e =
-    let k = began w after b h in
-    record { number = sym (k .passed); book = rw (k .passed) (e ∙ ap numbersIn (k .book)); world = h .world }
-
--- one that is refused has a question that says no
-pub refused-no : (w after : World) (a : Answer) → OpenedAs w after (Opened.Refused a) → openingAnswer w ≢ 0
-unfolding when
-refused-no w after a h z = let k : _≡_ {A = Option Book} none (some (bookOf w)) = rw z at (h .book) in absurd (let x : _≡_ {A = ℕ} 0 1 = cc in omega arith)
-
-pub stays-in : (w after : World) (a : Answer) (lent : List ℕ) → OpenedAs w after (Opened.Refused a) → (r : ℕ) → r ≡ numberOf a → OpensIn w after lent lent r
-stays-in w after a lent h r e =
-    record { number = e ∙ h .number; book = rw (ne-eqb _ _ (refused-no w after a h)); world = h .world }
+stays-in w after r lent e z h =
+    let k = ne-eqb (openingAnswer w) 0 (λ x. z (e ∙ x)) in
+    record { number = e; book = rw k; world = rw k h }
 
 -- ---- a message
 

@@ -9,9 +9,16 @@ use Rattle.rules.specs.declared.LineAnswer.{LineAnswer}
 use Rattle.rules.specs.declared.DayAnswer.{DayAnswer}
 use Rattle.rules.specs.Queries.{LineResult}
 use Rattle.rules.specs.Answers.{numberOf}
-use Rattle.queries.specs.Promises.{freshBook}
+use Rattle.rules.specs.Sizes.{billion, endOfDays}
+use Rattle.recording.specs.Opened.{freshBook}
 
 -- ---- a book and a message: nine numbers each, in the order of their fields
+
+abbrev pub bookSize : ℕ
+bookSize = 9
+
+abbrev pub fieldsSize : ℕ
+fieldsSize = 9
 
 abbrev pub bookIn : List ℕ → Book
 bookIn ns =
@@ -60,8 +67,8 @@ lineAfter (LineAnswer.Refused a) lent = lent
 
 -- the billionths of an answer are less than a krone
 abbrev pub InKrone : LineAnswer → Type 0
-InKrone (LineAnswer.Line quantity kroner billionths) = billionths < 1000000000
-InKrone (LineAnswer.Refused a) = 0 < 1000000000
+InKrone (LineAnswer.Line quantity kroner billionths) = billionths < billion
+InKrone (LineAnswer.Refused a) = 0 < billion
 
 -- ---- rows at the front of a lent list; those past the last one written stay as lent
 
@@ -71,7 +78,7 @@ frontOf rows lent = rows ++ drop (length rows) lent
 -- ---- a day: 36,525, which stands behind the last day, for none
 
 abbrev pub noDay : ℕ
-noDay = 36525
+noDay = endOfDays
 
 -- a lent day afterwards: a refusal leaves it
 abbrev pub dayAfter : DayAnswer → ℕ → ℕ

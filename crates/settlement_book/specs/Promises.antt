@@ -33,22 +33,22 @@ pub record RepliesIn (w after : World) (f : Fields) (r n : ℕ) (lent out : List
   pub count : n ≡ length (recordsOf w f (roomIn lent))
 
 -- the line query; for a book reached from an opening the line's numbers are the rules' sums
-pub record LineIn (w : World) (s e : ℕ) (r : ℕ) (lent out : List ℤ) : Type 0 where
-  pub number : r ≡ lineNumber w s e
-  pub numbers : out ≡ cond (eqb (lineNumber w s e) 0) (lineNumbers (lineQuery w s e)) lent
-  pub settled : (w₀ : World) (vs : List Event) → openingAnswer w₀ ≡ 0 → w ≡ reached w₀ vs .world → InBook (w₀ .opening) s e
-      → out ≡ lineNumbers (lineNamed (line (termsOf (w₀ .opening)) (freshFacts (reached w₀ vs .fresh)) Measure.quantity s e)
-      (line (termsOf (w₀ .opening)) (freshFacts (reached w₀ vs .fresh)) Measure.amount s e))
+pub record LineIn (w : World) (supplier element : ℕ) (r : ℕ) (lent out : List ℤ) : Type 0 where
+  pub number : r ≡ lineNumber w supplier element
+  pub numbers : out ≡ cond (eqb (lineNumber w supplier element) 0) (lineNumbers (lineQuery w supplier element)) lent
+  pub settled : (w₀ : World) (vs : List Event) → openingAnswer w₀ ≡ 0 → w ≡ reached w₀ vs .world → InBook (w₀ .opening) supplier element
+      → out ≡ lineNumbers (lineNamed (line (termsOf (w₀ .opening)) (freshFacts (reached w₀ vs .fresh)) Measure.quantity supplier element)
+      (line (termsOf (w₀ .opening)) (freshFacts (reached w₀ vs .fresh)) Measure.amount supplier element))
 
 -- the periods of a point and element: the rows at the front of the list, and how many there are
-pub record PeriodsIn (w : World) (p e : ℕ) (r n : ℕ) (lent out : List ℕ) : Type 0 where
-  pub number : r ≡ periodsNumber w p e
-  pub count : n ≡ length (periodsQuery w p e)
-  pub rows : out ≡ frontOf (periodsQuery w p e) lent
+pub record PeriodsIn (w : World) (point element : ℕ) (r n : ℕ) (lent out : List ℕ) : Type 0 where
+  pub number : r ≡ periodsNumber w point element
+  pub count : n ≡ length (periodsQuery w point element)
+  pub rows : out ≡ frontOf (periodsQuery w point element) lent
 
 -- the query for a day without a holder
-pub record DayIn (w : World) (p : ℕ) (r lent out : ℕ) : Type 0 where
-  pub number : r ≡ dayNumber w p
+pub record DayIn (w : World) (point : ℕ) (r lent out : ℕ) : Type 0 where
+  pub number : r ≡ dayNumber w point
   pub refused : r ≢ 0 → out ≡ lent
-  pub named : r ≡ 0 → out < noDay → DayNamed w p out
-  pub none : r ≡ 0 → noDay ≤ out → (out ≡ noDay) × NoDayNamed w p
+  pub named : r ≡ 0 → out < noDay → DayNamed w point out
+  pub none : r ≡ 0 → noDay ≤ out → (out ≡ noDay) × NoDayNamed w point

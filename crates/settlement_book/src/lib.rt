@@ -1,80 +1,34 @@
-// The functions that the static library exports: the opening, messages and queries of a book, over numbers and slices. A book is nine
-// numbers in the order of `rules::Book`, a message nine in the order of `rules::Fields`; every table is lent.
+// Every form for any book and any tables, opening, message and queries: questions 2 to 5, then the form for a book that is well formed; and
+// the functions that the static library exports, over numbers and slices. A book is nine numbers in the order of `rules::Book`, a message
+// nine in the order of `rules::Fields`; every table is lent.
 ghost use mathlib.Core.Path.{_≡_};
 ghost use lib.ListN.{length};
 ghost use Prim.Native.Nat.{_≤_};
-ghost use Rattle.rules.specs.World.{worldOf};
-ghost use Rattle.rules.specs.Answers.{lineResult};
+ghost use Rattle.rules.specs.Sizes.{lineSize};
 ghost use Rattle.rules.specs.Whole.{Whole};
-ghost use Rattle.settlement_book.specs.Numbers.{bookIn, numbersIn, fieldsIn, freshIn, lineAfter, InKrone, frontOf, dayAfter, dayAnswerNumber};
+ghost use Rattle.rules.specs.Lent.{Lists, worldIn, given, lent, lendLinks, lendRows, lendLines, left, was};
+ghost use Rattle.settlement.specs.Replies.{Replied};
+ghost use Rattle.settlement_book.specs.Numbers.{bookSize, fieldsSize, bookIn, fieldsIn, freshIn};
 ghost use Rattle.settlement_book.specs.Promises.{OpensIn, RepliesIn, LineIn, PeriodsIn, DayIn};
-ghost use Rattle.rules.specs.Lent.{left, was};
-use queries::day_without_holder;
-use queries::day_without_holder_within;
-use queries::line_within;
-use queries::open;
-use queries::periods_number;
-use queries::periods_number_within;
-use queries::periods_within;
+pub mod numbers;
+pub mod questions;
+use crate::numbers::book_of;
+use crate::numbers::copy_front;
+use crate::numbers::fields_of;
+use crate::numbers::put_book;
+use crate::numbers::put_day;
+use crate::numbers::put_line;
+use crate::questions::Lengths;
+use crate::questions::check_book;
+use crate::questions::check_opening;
+use recording::opening::clear_tables;
+use recording::opening::fresh_book;
 use rules::Book;
-use rules::DayAnswer;
 use rules::Fields;
-use rules::LineAnswer;
-use rules::Opened;
-use settlement::message;
-use settlement::message_within;
+use settlement::Reply;
+use settlement::refused;
+use validation::questions::ask_pair;
 use validation::questions::number;
-
-// ---- a book and a message as numbers
-
-fn book_of(numbers: &[u64]) -> Book
-    requires { ⌜ length (now numbers) ≡ 9 ⌝ }
-    ensures { λ r. ⌜ r ≡ bookIn (was numbers) ⌝ }
-{
-    Book {
-        year: numbers[0],
-        month: numbers[1],
-        points: numbers[2],
-        suppliers: numbers[3],
-        elements: numbers[4],
-        periods: numbers[5],
-        holders: numbers[6],
-        states: numbers[7],
-        round: numbers[8],
-    }
-}
-
-fn put_book(numbers: &mut [u64], book: Book)
-    requires { ⌜ length (now numbers) ≡ 9 ⌝ }
-    ensures { λ _. ⌜ left numbers ≡ numbersIn book ⌝ }
-{
-    numbers[0] = book.year;
-    numbers[1] = book.month;
-    numbers[2] = book.points;
-    numbers[3] = book.suppliers;
-    numbers[4] = book.elements;
-    numbers[5] = book.periods;
-    numbers[6] = book.holders;
-    numbers[7] = book.states;
-    numbers[8] = book.round;
-}
-
-fn fields_of(numbers: &[u64]) -> Fields
-    requires { ⌜ length (now numbers) ≡ 9 ⌝ }
-    ensures { λ r. ⌜ r ≡ fieldsIn (was numbers) ⌝ }
-{
-    Fields {
-        kind: numbers[0],
-        role: numbers[1],
-        sender: numbers[2],
-        received: numbers[3],
-        point: numbers[4],
-        element: numbers[5],
-        day: numbers[6],
-        hour: numbers[7],
-        value: numbers[8],
-    }
-}
 
 // ---- opening
 
@@ -93,16 +47,64 @@ pub extern "C" fn settlement_book_open(
     lines: &mut [i64],
     sent: &mut [i64],
 ) -> u64
-    requires { ⌜ length (now book) ≡ 9 ⌝ }
-    ensures { λ r. ⌜ OpensIn (worldOf (freshIn (was book)) (was element_data) (was prices) (was links) (was holders) (was states) (was readings) (was blocks) (was lines) (was sent)) (worldOf (freshIn (was book)) (was element_data) (was prices) (left links) (left holders) (left states) (left readings) (left blocks) (left lines) (left sent)) (was book) (left book) r × (r ≡ 0 → Whole (worldOf (bookIn (left book)) (was element_data) (was prices) (left links) (left holders) (left states) (left readings) (left blocks) (left lines) (left sent))) ⌝ }
+    requires { ⌜ length (now book) ≡ bookSize ⌝ }
+    ensures opens { λ r. ⌜ (let t = lent element_data prices links holders states readings blocks lines sent in
+        let fresh = freshIn (was book) in
+        OpensIn (worldIn fresh (t .entry)) (worldIn fresh (t .exit)) (was book) (left book) r) ⌝ }
+    ensures whole { λ r. ⌜ (let t = lent element_data prices links holders states readings blocks lines sent in
+        r ≡ 0 → Whole (worldIn (bookIn (left book)) (t .exit))) ⌝ }
 {
-    let lent = book_of(book);
-    let opened = open(
-        lent.year,
-        lent.month,
-        lent.points,
-        lent.suppliers,
-        lent.elements,
+    let named = book_of(book);
+    let fresh = fresh_book(
+        named.year,
+        named.month,
+        named.points,
+        named.suppliers,
+        named.elements,
+    );
+    let lengths = Lengths {
+        element_data: element_data.len(),
+        prices: prices.len(),
+        links: links.len(),
+        holders: holders.len(),
+        states: states.len(),
+        readings: readings.len(),
+        blocks: blocks.len(),
+        lines: lines.len(),
+        sent: sent.len(),
+    };
+    let asked = number(check_opening(fresh, element_data, prices, lengths));
+    if asked != 0 {
+        return asked;
+    }
+    clear_tables(links, holders, states, readings, blocks, lines, sent);
+    put_book(book, fresh);
+    0
+}
+
+// ---- messages
+
+// A message of any book and any tables: questions 2 to 18; six numbers for each record of the list. A refusal leaves book, tables and list
+// as they were. Linear in what is lent, for the questions of the book.
+pub fn message(
+    book: Book,
+    element_data: &[u8],
+    prices: &[i64],
+    links: &mut [u64],
+    holders: &mut [u64],
+    states: &mut [u64],
+    readings: &mut [u32],
+    blocks: &mut [u8],
+    lines: &mut [i64],
+    sent: &mut [i64],
+    records: &mut [i64],
+    fields: Fields,
+) -> Reply
+    ensures { λ r. ⌜ (let t = lent element_data prices links holders states readings blocks lines sent in
+        Replied (worldIn book (t .entry)) (worldIn (r .book) (t .exit)) fields r (was records) (left records)) ⌝ }
+{
+    let asked = check_book(
+        book,
         element_data,
         prices,
         links,
@@ -113,19 +115,26 @@ pub extern "C" fn settlement_book_open(
         lines,
         sent,
     );
-    match opened {
-        Opened::Book(fresh) => {
-            put_book(book, fresh);
-            0
-        }
-        Opened::Refused(answer) => number(answer),
+    if number(asked) != 0 {
+        return refused(asked, book);
     }
+    settlement::message(
+        book,
+        element_data,
+        prices,
+        links,
+        holders,
+        states,
+        readings,
+        blocks,
+        lines,
+        sent,
+        records,
+        fields,
+    )
 }
 
-// ---- messages
-
-// A message of any book and any tables: the question that says no, or 0; and how many records stand at the front of the list, six
-// numbers a record. Linear in what is lent, for the questions of the book.
+// The same in numbers: the question that says no, or 0; and how many records stand at the front of the list.
 #[no_mangle]
 pub extern "C" fn settlement_book_message(
     book: &mut [u64],
@@ -142,8 +151,10 @@ pub extern "C" fn settlement_book_message(
     fields: &[u64],
     count: &mut u64,
 ) -> u64
-    requires { ⌜ (length (now book) ≡ 9) × (length (now fields) ≡ 9) ⌝ }
-    ensures { λ r. ⌜ RepliesIn (worldOf (bookIn (was book)) (was element_data) (was prices) (was links) (was holders) (was states) (was readings) (was blocks) (was lines) (was sent)) (worldOf (bookIn (left book)) (was element_data) (was prices) (left links) (left holders) (left states) (left readings) (left blocks) (left lines) (left sent)) (fieldsIn (was fields)) r (left count) (was records) (left records) ⌝ }
+    requires { ⌜ (length (now book) ≡ bookSize) × (length (now fields) ≡ fieldsSize) ⌝ }
+    ensures { λ r. ⌜ (let t = lent element_data prices links holders states readings blocks lines sent in
+        RepliesIn (worldIn (bookIn (was book)) (t .entry)) (worldIn (bookIn (left book)) (t .exit)) (fieldsIn (was fields))
+        r (left count) (was records) (left records)) ⌝ }
 {
     let reply = message(
         book_of(book),
@@ -166,7 +177,7 @@ pub extern "C" fn settlement_book_message(
     number(answer)
 }
 
-// The same of a book that is well formed, and stays so. Cost: as for `settlement::message_within`.
+// The same of a book that is well formed, and stays so. Cost: as for `settlement::message`.
 #[no_mangle]
 pub extern "C" fn settlement_book_message_within(
     book: &mut [u64],
@@ -183,11 +194,15 @@ pub extern "C" fn settlement_book_message_within(
     fields: &[u64],
     count: &mut u64,
 ) -> u64
-    requires { ⌜ (length (now book) ≡ 9) × (length (now fields) ≡ 9) ⌝ }
-    requires { ⌜ Whole (worldOf (bookIn (now book)) (now element_data) (now prices) (now links) (now holders) (now states) (now readings) (now blocks) (now lines) (now sent)) ⌝ }
-    ensures { λ r. ⌜ RepliesIn (worldOf (bookIn (was book)) (was element_data) (was prices) (was links) (was holders) (was states) (was readings) (was blocks) (was lines) (was sent)) (worldOf (bookIn (left book)) (was element_data) (was prices) (left links) (left holders) (left states) (left readings) (left blocks) (left lines) (left sent)) (fieldsIn (was fields)) r (left count) (was records) (left records) × Whole (worldOf (bookIn (left book)) (was element_data) (was prices) (left links) (left holders) (left states) (left readings) (left blocks) (left lines) (left sent)) ⌝ }
+    requires { ⌜ (length (now book) ≡ bookSize) × (length (now fields) ≡ fieldsSize) ⌝ }
+    requires { ⌜ Whole (worldIn (bookIn (now book)) (given element_data prices links holders states readings blocks lines sent)) ⌝ }
+    ensures replies { λ r. ⌜ (let t = lent element_data prices links holders states readings blocks lines sent in
+        RepliesIn (worldIn (bookIn (was book)) (t .entry)) (worldIn (bookIn (left book)) (t .exit)) (fieldsIn (was fields))
+        r (left count) (was records) (left records)) ⌝ }
+    ensures whole { λ _. ⌜ (let t = lent element_data prices links holders states readings blocks lines sent in
+        Whole (worldIn (bookIn (left book)) (t .exit))) ⌝ }
 {
-    let reply = message_within(
+    let reply = settlement::message(
         book_of(book),
         element_data,
         prices,
@@ -210,28 +225,25 @@ pub extern "C" fn settlement_book_message_within(
 
 // ---- the line query
 
-// The line's three numbers, or the question that says no; a refusal writes nothing.
-fn put_line(answer: LineAnswer, line: &mut [i64]) -> u64
-    requires { ⌜ (length (now line) ≡ 3) × InKrone answer ⌝ }
-    ensures { λ r. ⌜ (r ≡ lineResult answer .number) × (left line ≡ lineAfter answer (was line)) ⌝ }
+// The quantity, kroner and billionths of a supplier and an element, of a book that is well formed. Constant time.
+#[no_mangle]
+pub extern "C" fn settlement_book_line_within(
+    book: &[u64],
+    lines: &[i64],
+    supplier: u64,
+    element: u64,
+    line: &mut [i64],
+) -> u64
+    requires { ⌜ (length (now book) ≡ bookSize) × (length (now line) ≡ lineSize) ⌝ }
+    requires { ⌜ ((o : Lists) × Whole (worldIn (bookIn (now book)) (lendLines (now lines) o))) ⌝ }
+    ensures { λ r. ⌜ ((o : Lists) →
+        let w = worldIn (bookIn (was book)) (lendLines (was lines) o) in
+        Whole w → LineIn w supplier element r (was line) (left line)) ⌝ }
 {
-    match answer {
-        LineAnswer::Line {
-            quantity,
-            kroner,
-            billionths,
-        } => {
-            line[0] = quantity;
-            line[1] = kroner;
-            line[2] = billionths as i64;
-            0
-        }
-        LineAnswer::Refused(asked) => number(asked),
-    }
+    put_line(queries::line(book_of(book), lines, supplier, element), line)
 }
 
-// The quantity, kroner and billionths of a supplier and an element, of any book and any tables. Linear in what is lent, for the questions
-// of the book.
+// The same of any book and any tables. Linear in what is lent, for the questions of the book.
 #[no_mangle]
 pub extern "C" fn settlement_book_line(
     book: &[u64],
@@ -248,10 +260,11 @@ pub extern "C" fn settlement_book_line(
     element: u64,
     line: &mut [i64],
 ) -> u64
-    requires { ⌜ (length (now book) ≡ 9) × (length (now line) ≡ 3) ⌝ }
-    ensures { λ r. ⌜ LineIn (worldOf (bookIn (was book)) (was element_data) (was prices) (was links) (was holders) (was states) (was readings) (was blocks) (was lines) (was sent)) supplier element r (was line) (left line) ⌝ }
+    requires { ⌜ (length (now book) ≡ bookSize) × (length (now line) ≡ lineSize) ⌝ }
+    ensures { λ r. ⌜ (let t = lent element_data prices links holders states readings blocks lines sent in
+        LineIn (worldIn (bookIn (was book)) (t .entry)) supplier element r (was line) (left line)) ⌝ }
 {
-    let answer = queries::line(
+    let asked = check_book(
         book_of(book),
         element_data,
         prices,
@@ -262,118 +275,38 @@ pub extern "C" fn settlement_book_line(
         blocks,
         lines,
         sent,
-        supplier,
-        element,
     );
-    put_line(answer, line)
-}
-
-// The same of a book that is well formed. Constant time.
-#[no_mangle]
-pub extern "C" fn settlement_book_line_within(
-    book: &[u64],
-    element_data: &[u8],
-    prices: &[i64],
-    links: &[u64],
-    holders: &[u64],
-    states: &[u64],
-    readings: &[u32],
-    blocks: &[u8],
-    lines: &[i64],
-    sent: &[i64],
-    supplier: u64,
-    element: u64,
-    line: &mut [i64],
-) -> u64
-    requires { ⌜ (length (now book) ≡ 9) × (length (now line) ≡ 3) ⌝ }
-    requires { ⌜ Whole (worldOf (bookIn (now book)) (now element_data) (now prices) (now links) (now holders) (now states) (now readings) (now blocks) (now lines) (now sent)) ⌝ }
-    ensures { λ r. ⌜ LineIn (worldOf (bookIn (was book)) (was element_data) (was prices) (was links) (was holders) (was states) (was readings) (was blocks) (was lines) (was sent)) supplier element r (was line) (left line) ⌝ }
-{
-    let answer = line_within(
-        book_of(book),
-        element_data,
-        prices,
-        links,
-        holders,
-        states,
-        readings,
-        blocks,
-        lines,
-        sent,
-        supplier,
-        element,
-    );
-    put_line(answer, line)
+    if number(asked) == 0 {
+        settlement_book_line_within(book, lines, supplier, element, line)
+    } else {
+        number(asked)
+    }
 }
 
 // ---- the periods of a point and element
-
-// Linear in the part.
-fn copy_front(part: &[u64], rows: &mut [u64])
-    requires { ⌜ length (now part) ≤ length (now rows) ⌝ }
-    ensures { λ _. ⌜ left rows ≡ frontOf (was part) (was rows) ⌝ }
-{
-    let mut i = 0;
-    while i < part.len() {
-        rows[i] = part[i];
-        i += 1;
-    }
-}
 
 // Everything recorded for a point and an element of a book that is well formed: the rows at the front of the list, and how many.
 // Logarithmic in the rows of the book, linear in those copied.
 #[no_mangle]
 pub extern "C" fn settlement_book_periods_within(
     book: &[u64],
-    element_data: &[u8],
-    prices: &[i64],
     links: &[u64],
-    holders: &[u64],
-    states: &[u64],
-    readings: &[u32],
-    blocks: &[u8],
-    lines: &[i64],
-    sent: &[i64],
     point: u64,
     element: u64,
     rows: &mut [u64],
     count: &mut u64,
 ) -> u64
-    requires { ⌜ (length (now book) ≡ 9) × (length (now links) ≤ length (now rows)) ⌝ }
-    requires { ⌜ Whole (worldOf (bookIn (now book)) (now element_data) (now prices) (now links) (now holders) (now states) (now readings) (now blocks) (now lines) (now sent)) ⌝ }
-    ensures { λ r. ⌜ PeriodsIn (worldOf (bookIn (was book)) (was element_data) (was prices) (was links) (was holders) (was states) (was readings) (was blocks) (was lines) (was sent)) point element r (left count) (was rows) (left rows) ⌝ }
+    requires { ⌜ (length (now book) ≡ bookSize) × (length (now links) ≤ length (now rows)) ⌝ }
+    requires { ⌜ ((o : Lists) × Whole (worldIn (bookIn (now book)) (lendLinks (now links) o))) ⌝ }
+    ensures { λ r. ⌜ ((o : Lists) →
+        let w = worldIn (bookIn (was book)) (lendLinks (was links) o) in
+        Whole w → PeriodsIn w point element r (left count) (was rows) (left rows)) ⌝ }
 {
     let held = book_of(book);
-    let part = periods_within(
-        held,
-        element_data,
-        prices,
-        links,
-        holders,
-        states,
-        readings,
-        blocks,
-        lines,
-        sent,
-        point,
-        element,
-    );
+    let part = queries::periods(held, links, point, element);
     copy_front(part, rows);
     *count = part.len() as u64;
-    number(periods_number_within(
-        held,
-        element_data,
-        prices,
-        links,
-        holders,
-        states,
-        readings,
-        blocks,
-        lines,
-        sent,
-        point,
-        element,
-    ))
+    number(ask_pair(held, point, element))
 }
 
 // The same of any book and any tables. Linear in what is lent, for the questions of the book.
@@ -394,12 +327,12 @@ pub extern "C" fn settlement_book_periods(
     rows: &mut [u64],
     count: &mut u64,
 ) -> u64
-    requires { ⌜ (length (now book) ≡ 9) × (length (now links) ≤ length (now rows)) ⌝ }
-    ensures { λ r. ⌜ PeriodsIn (worldOf (bookIn (was book)) (was element_data) (was prices) (was links) (was holders) (was states) (was readings) (was blocks) (was lines) (was sent)) point element r (left count) (was rows) (left rows) ⌝ }
+    requires { ⌜ (length (now book) ≡ bookSize) × (length (now links) ≤ length (now rows)) ⌝ }
+    ensures { λ r. ⌜ (let t = lent element_data prices links holders states readings blocks lines sent in
+        PeriodsIn (worldIn (bookIn (was book)) (t .entry)) point element r (left count) (was rows) (left rows)) ⌝ }
 {
-    let held = book_of(book);
-    let asked = number(periods_number(
-        held,
+    let asked = check_book(
+        book_of(book),
         element_data,
         prices,
         links,
@@ -409,53 +342,41 @@ pub extern "C" fn settlement_book_periods(
         blocks,
         lines,
         sent,
-        point,
-        element,
-    ));
-    if asked == 0 {
-        settlement_book_periods_within(
-            book,
-            element_data,
-            prices,
-            links,
-            holders,
-            states,
-            readings,
-            blocks,
-            lines,
-            sent,
-            point,
-            element,
-            rows,
-            count,
-        )
+    );
+    if number(asked) == 0 {
+        settlement_book_periods_within(book, links, point, element, rows, count)
     } else {
         *count = 0;
-        asked
+        number(asked)
     }
 }
 
 // ---- a day without a holder
 
-// The day, 36,525 for none, or the question that says no; a refusal writes nothing.
-fn put_day(answer: DayAnswer, day: &mut u64) -> u64
-    ensures { λ r. ⌜ (r ≡ dayAnswerNumber answer) × (left day ≡ dayAfter answer (was day)) ⌝ }
+// A day of the month on which the point counts but for a missing holder and has a link, of a book that is well formed. At most 31 days of
+// 66 searches.
+#[no_mangle]
+pub extern "C" fn settlement_book_day_without_holder_within(
+    book: &[u64],
+    links: &[u64],
+    holders: &[u64],
+    states: &[u64],
+    point: u64,
+    day: &mut u64,
+) -> u64
+    requires { ⌜ length (now book) ≡ bookSize ⌝ }
+    requires { ⌜ ((o : Lists) × Whole (worldIn (bookIn (now book)) (lendRows (now links) (now holders) (now states) o))) ⌝ }
+    ensures { λ r. ⌜ ((o : Lists) →
+        let w = worldIn (bookIn (was book)) (lendRows (was links) (was holders) (was states) o) in
+        Whole w → DayIn w point r (was day) (left day)) ⌝ }
 {
-    match answer {
-        DayAnswer::Day(found) => {
-            *day = found;
-            0
-        }
-        DayAnswer::NoDay => {
-            *day = 36525;
-            0
-        }
-        DayAnswer::Refused(asked) => number(asked),
-    }
+    put_day(
+        queries::day_without_holder(book_of(book), links, holders, states, point),
+        day,
+    )
 }
 
-// A day of the month on which the point counts but for a missing holder and has a link, of any book and any tables. Linear in what is lent,
-// for the questions of the book.
+// The same of any book and any tables. Linear in what is lent, for the questions of the book.
 #[no_mangle]
 pub extern "C" fn settlement_book_day_without_holder(
     book: &[u64],
@@ -471,10 +392,11 @@ pub extern "C" fn settlement_book_day_without_holder(
     point: u64,
     day: &mut u64,
 ) -> u64
-    requires { ⌜ length (now book) ≡ 9 ⌝ }
-    ensures { λ r. ⌜ DayIn (worldOf (bookIn (was book)) (was element_data) (was prices) (was links) (was holders) (was states) (was readings) (was blocks) (was lines) (was sent)) point r (was day) (left day) ⌝ }
+    requires { ⌜ length (now book) ≡ bookSize ⌝ }
+    ensures { λ r. ⌜ (let t = lent element_data prices links holders states readings blocks lines sent in
+        DayIn (worldIn (bookIn (was book)) (t .entry)) point r (was day) (left day)) ⌝ }
 {
-    let answer = day_without_holder(
+    let asked = check_book(
         book_of(book),
         element_data,
         prices,
@@ -485,43 +407,10 @@ pub extern "C" fn settlement_book_day_without_holder(
         blocks,
         lines,
         sent,
-        point,
     );
-    put_day(answer, day)
-}
-
-// The same of a book that is well formed. At most 31 days of 66 searches.
-#[no_mangle]
-pub extern "C" fn settlement_book_day_without_holder_within(
-    book: &[u64],
-    element_data: &[u8],
-    prices: &[i64],
-    links: &[u64],
-    holders: &[u64],
-    states: &[u64],
-    readings: &[u32],
-    blocks: &[u8],
-    lines: &[i64],
-    sent: &[i64],
-    point: u64,
-    day: &mut u64,
-) -> u64
-    requires { ⌜ length (now book) ≡ 9 ⌝ }
-    requires { ⌜ Whole (worldOf (bookIn (now book)) (now element_data) (now prices) (now links) (now holders) (now states) (now readings) (now blocks) (now lines) (now sent)) ⌝ }
-    ensures { λ r. ⌜ DayIn (worldOf (bookIn (was book)) (was element_data) (was prices) (was links) (was holders) (was states) (was readings) (was blocks) (was lines) (was sent)) point r (was day) (left day) ⌝ }
-{
-    let answer = day_without_holder_within(
-        book_of(book),
-        element_data,
-        prices,
-        links,
-        holders,
-        states,
-        readings,
-        blocks,
-        lines,
-        sent,
-        point,
-    );
-    put_day(answer, day)
+    if number(asked) == 0 {
+        settlement_book_day_without_holder_within(book, links, holders, states, point, day)
+    } else {
+        number(asked)
+    }
 }

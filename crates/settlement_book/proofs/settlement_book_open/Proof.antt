@@ -1,31 +1,86 @@
--- Where the opening gives a book, its numbers are put in the place of the lent ones, and it is well formed.
-use mathlib.Core.Path.{sym, _∙_}
-use Rattle.queries.proofs.Opens.{began}
-use Rattle.settlement_book.proofs.Answers.{opened-whole, opens-in, refused-no, stays-in}
+-- Where questions 2 to 4 pass, cleared tables are those of the opened book, whose numbers are put in the place of the lent ones.
+use mathlib.Core.Path.{_≡_, refl, sym, ap, _∙_}
+use Prim.Native.Nat.{ℕ}
+use mathlib.Core.List.{List}
+use lib.ListN.{getD}
+use Rattle.rules.specs.declared.Book.{Book}
+use Rattle.rules.specs.World.{World}
+use Rattle.rules.specs.Opening.{openingAnswer}
+use Rattle.rules.specs.Lent.{Lists, worldIn, given}
+use Rattle.recording.specs.Opened.{freshBook}
+use Rattle.settlement_book.specs.Numbers.{numbersIn, freshIn}
+use Rattle.settlement_book.proofs.Answers.{opened-whole, opens-world, opens-in, put-whole, stays-in}
 use borrow.Author.Needs.{needs}
 use Rattle.settlement_book.proofs.settlement_book_open.Statement.{statement}
 use Rattle.settlement_book.proofs.settlement_book_open.Tie as tie
 
+
+-- everything that is lent
+abbrev lent : tie.Start → Lists
+lent s =
+    given (s .args .element-data) (s .args .prices) (s .args .links) (s .args .holders) (s .args .states) (s .args .readings)
+    (s .args .blocks) (s .args .lines) (s .args .sent)
+
+abbrev world : tie.Start → World
+world s = worldIn (freshIn (s .args .book .now)) (lent s)
+
+abbrev start-of : tie.After-number → tie.Start
+start-of c = search
+
+abbrev fresh-of : tie.After-number → tie.After-fresh-book
+fresh-of c = search
+
+-- the book that is asked is the fresh one of the lent numbers
+fresh-is : (c : tie.After-number) → fresh-of c .fresh-book .result ≡ freshIn (start-of c .args .book .now)
+fresh-is c =
+    let made = fresh-of c in
+    let named : tie.After-book-of = search in
+    made .fresh-book .ensures
+    ∙ ap (λ (b : Book). freshBook (b .year) (b .month) (b .points) (b .suppliers) (b .elements)) (named .book-of .ensures)
+
+-- what questions 2 to 4 have said
+number-is : (c : tie.After-number) → c .number .result ≡ openingAnswer (world (start-of c))
+number-is c =
+    let asked : tie.After-check-opening = search in
+    c .number .ensures ∙ asked .check-opening .ensures (lent (start-of c)) refl
+    ∙ ap (λ (b : Book). openingAnswer (worldIn b (lent (start-of c)))) (fresh-is c)
+
+abbrev number-of : tie.After-clear-tables → tie.After-number
+number-of c = search
+
+abbrev passed-of : tie.After-clear-tables → tie.Else1
+passed-of c = search
+
 book-of-requires : tie.Need-book-of-requires
 book-of-requires c κs = search needs
 
-open-requires : tie.Need-open-requires
-open-requires c κs = search needs
+fresh-book-requires : tie.Need-fresh-book-requires
+fresh-book-requires c κs = search needs
 
-enum-known-opened : tie.Need-enum-known-opened
-enum-known-opened c = search needs
-
-put-book-requires : tie.Need-put-book-requires
-put-book-requires c κs = c .before .before .before .before .before .before .before .before .before .before .before .before .before .before .before .before .before .before .before .before .before .before .before .before .before .before .before .before .before .before .before .before .before .pre
-
-enum-known-opened-2 : tie.Need-enum-known-opened-2
-enum-known-opened-2 c = search needs
-
+check-opening-requires : tie.Need-check-opening-requires
+check-opening-requires c κs =
+    let start : tie.Start = search in
+    (lent start, refl)
 number-requires : tie.Need-number-requires
 number-requires c κs = search needs
 
 same-length : tie.Need-same-length
 same-length c = search needs
+
+returns : tie.Need-returns
+returns c =
+    let numbered : tie.After-number = search in
+    let start = start-of numbered in
+    let n = number-is numbered in
+    (stays-in (world start) (world start) _ (start .args .book .now) n (c .if1 .taken) refl, λ z. absurd (c .if1 .taken z))
+
+clear-tables-requires : tie.Need-clear-tables-requires
+clear-tables-requires c κs = search needs
+
+put-book-requires : tie.Need-put-book-requires
+put-book-requires c κs =
+    let numbered : tie.After-number = search in
+    start-of numbered .pre
 
 same-length-2 : tie.Need-same-length-2
 same-length-2 c = search needs
@@ -48,55 +103,35 @@ same-length-7 c = search needs
 same-length-8 : tie.Need-same-length-8
 same-length-8 c = search needs
 
-returns : tie.Need-returns
-returns c =
-    let b = c .before .before .before .before .before .opened .given in
-    let o = rw (c .before .before .before .before .before .before .before .before .before .before .before .before .before .before .before .before .before .before .before .before .before .before .before .before .before .before .before .book-of .ensures, b .1) at (c .before .before .before .before .before .before .before .before .before .before .before .before .before .before .before .before .before .before .before .«open» .ensures) in
-    let k = began _ _ _ o in
-    let t = c .before .before .put-book .ensures in
-    (opens-in _ _ _ _ _ o t, λ z. rw (t, k .book) (opened-whole _ _ (o .world) (k .passed)))
-
 same-length-9 : tie.Need-same-length-9
 same-length-9 c = search needs
 
-same-length-10 : tie.Need-same-length-10
-same-length-10 c = search needs
-
-same-length-11 : tie.Need-same-length-11
-same-length-11 c = search needs
-
-same-length-12 : tie.Need-same-length-12
-same-length-12 c = search needs
-
-same-length-13 : tie.Need-same-length-13
-same-length-13 c = search needs
-
-same-length-14 : tie.Need-same-length-14
-same-length-14 c = search needs
-
-same-length-15 : tie.Need-same-length-15
-same-length-15 c = search needs
-
-same-length-16 : tie.Need-same-length-16
-same-length-16 c = search needs
-
 returns-2 : tie.Need-returns-2
 returns-2 c =
-    let b = c .before .before .opened2 .given in
-    let o = rw (c .before .before .before .before .before .before .before .before .before .before .before .before .before .before .before .before .before .before .before .before .before .before .before .before .book-of .ensures, b .1) at (c .before .before .before .before .before .before .before .before .before .before .before .before .before .before .before .before .«open» .ensures) in
-    (stays-in _ _ _ _ o _ (c .number .ensures), λ z. absurd (refused-no _ _ _ o (sym (o .number) ∙ sym (c .number .ensures) ∙ z)))
+    let cleared : tie.After-clear-tables = search in
+    let put : tie.After-put-book = search in
+    let numbered = number-of cleared in
+    let start = start-of numbered in
+    let b = start .args .book .now in
+    let h = sym (number-is numbered) ∙ passed-of cleared .if1 .left in
+    let e = cleared .clear-tables .ensures (lent start) in
+    let n = put .put-book .ensures ∙ ap numbersIn (fresh-is numbered) in
+    (opens-in (getD b 0 0) (getD b 1 0) (getD b 2 0) (getD b 3 0) (getD b 4 0) (lent start) _ h e b _ n,
+    λ z. put-whole (freshIn b) _ _ n
+    (opened-whole (world start) _ (opens-world (getD b 0 0) (getD b 1 0) (getD b 2 0) (getD b 3 0) (getD b 4 0) (lent start) _ h e) h))
 
 pub settlement-book-open-spec : {M : Type 1} → statement M
 settlement-book-open-spec =
     tie.close
     (tie.spec
     book-of-requires
-    open-requires
-    enum-known-opened
-    put-book-requires
-    enum-known-opened-2
+    fresh-book-requires
+    check-opening-requires
     number-requires
     same-length
+    returns
+    clear-tables-requires
+    put-book-requires
     same-length-2
     same-length-3
     same-length-4
@@ -104,13 +139,5 @@ settlement-book-open-spec =
     same-length-6
     same-length-7
     same-length-8
-    returns
     same-length-9
-    same-length-10
-    same-length-11
-    same-length-12
-    same-length-13
-    same-length-14
-    same-length-15
-    same-length-16
     returns-2)

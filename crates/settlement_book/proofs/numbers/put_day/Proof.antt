@@ -1,0 +1,41 @@
+-- `settlement_book::put_day` meets its contract: by the case of the answer.
+use mathlib.Core.Path.{sym, ap, _∙_}
+use Rattle.settlement_book.specs.Numbers.{dayAfter, dayAnswerNumber}
+use borrow.Author.Needs.{needs}
+use Rattle.settlement_book.proofs.numbers.put_day.Statement.{statement}
+use Rattle.settlement_book.proofs.numbers.put_day.Tie as tie
+
+enum-known-answer : tie.Need-enum-known-answer
+enum-known-answer c = search needs
+
+enum-told : tie.Need-enum-told
+enum-told c = search needs
+
+enum-known-answer-2 : tie.Need-enum-known-answer-2
+enum-known-answer-2 c = search needs
+
+number-requires : tie.Need-number-requires
+number-requires c κs = search needs
+
+returns : tie.Need-returns
+returns c = search needs
+
+returns-2 : tie.Need-returns-2
+returns-2 c = search needs
+
+returns-3 : tie.Need-returns-3
+returns-3 c =
+    let e = c .before .before .answer2 .given .1 in
+    (c .number .ensures ∙ sym (ap dayAnswerNumber e), sym (ap (λ x. dayAfter x (c .before .before .before .before .args .day .now)) e))
+
+pub put-day-spec : {M : Type 1} → statement M
+put-day-spec =
+    tie.close
+    (tie.spec
+    enum-known-answer
+    enum-told
+    enum-known-answer-2
+    number-requires
+    returns
+    returns-2
+    returns-3)

@@ -1,0 +1,67 @@
+-- Every reading passed so far is right, and one that is not answers.
+use Prim.Native.Nat.{ℕ, _≤_, _<_, _-_}
+use mathlib.Core.Path.{_≡_, sym}
+use borrow.Author.Tests.{le-leb, lt-leb}
+use mathlib.Core.Bool.{true}
+use lib.Dec.{leb}
+use lib.ListN.{length, getD}
+use Rattle.tables.proofs.Right.{in-all, in-not, one-more}
+use native.Mathlib.Omega.{arith}
+use borrow.Author.Needs.{needs}
+use Rattle.settlement_book.proofs.questions.readings_right.Statement.{statement}
+use Rattle.settlement_book.proofs.questions.readings_right.Tie as tie
+
+abbrev Inv-loop : tie.InvT-loop
+Inv-loop readings i₀ i = (i ≤ length readings) × ((k : ℕ) → k < i → leb (getD readings k 0) 9999999 ≡ true)
+
+abbrev μ-loop : tie.MeasureT-loop
+μ-loop readings i₀ i = length readings - i
+
+loop-holds : tie.Need-loop-holds Inv-loop μ-loop
+loop-holds c = (omega arith, (λ k h. absurd (omega arith)))
+
+mul-if1 : tie.Need-mul-if1 Inv-loop μ-loop
+mul-if1 c = search needs
+
+shared-slice-read-if1 : tie.Need-shared-slice-read-if1 Inv-loop μ-loop
+shared-slice-read-if1 c = search needs
+
+cast-if1 : tie.Need-cast-if1 Inv-loop μ-loop
+cast-if1 c = search needs
+
+add-i : tie.Need-add-i Inv-loop μ-loop
+add-i c = search needs
+
+loop-less : tie.Need-loop-less Inv-loop μ-loop
+loop-less c = search needs
+
+loop-again : tie.Need-loop-again Inv-loop μ-loop
+loop-again c = let s = c .before .before .before .before in (
+  omega arith,
+  one-more (λ k. leb (getD (s .args .readings .now) k 0) 9999999) (c .before .before .before .loop .i)
+      (c .before .before .before .loop .inv .1) (le-leb _ _ (c .if1 .taken)),
+)
+
+returns : tie.Need-returns Inv-loop μ-loop
+returns c = let s = c .before .before .before .before in
+    sym (in-not (λ x. leb x 9999999) (s .args .readings .now) (c .before .before .before .loop .i) (omega arith) (lt-leb _ _ (c .if1 .left)))
+
+returns-2 : tie.Need-returns-2 Inv-loop μ-loop
+returns-2 c = let s = c .before .before in
+    sym (in-all (λ x. leb x 9999999) (s .args .readings .now) (λ k h. c .before .loop .inv .1 k (omega arith)))
+
+pub readings-right-spec : {M : Type 1} → statement M
+readings-right-spec =
+    tie.close
+    (tie.spec
+    Inv-loop
+    μ-loop
+    loop-holds
+    mul-if1
+    shared-slice-read-if1
+    cast-if1
+    add-i
+    loop-less
+    loop-again
+    returns
+    returns-2)

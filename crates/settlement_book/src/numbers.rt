@@ -1,0 +1,116 @@
+// A book, a message and the answers as the numbers that the exported functions take and give.
+ghost use mathlib.Core.Path.{_≡_};
+ghost use Prim.Native.Nat.{_≤_};
+ghost use lib.ListN.{length};
+ghost use Rattle.rules.specs.Answers.{lineResult};
+ghost use Rattle.rules.specs.Sizes.{lineSize};
+ghost use Rattle.rules.specs.Lent.{left, was};
+ghost use Rattle.settlement_book.specs.Numbers.{bookSize, fieldsSize, bookIn, numbersIn, fieldsIn, lineAfter, InKrone, frontOf, dayAfter, dayAnswerNumber};
+use rules::Book;
+use rules::DayAnswer;
+use rules::END_OF_DAYS;
+use rules::Fields;
+use rules::LineAnswer;
+use validation::questions::number;
+
+// ---- a book and a message
+
+pub fn book_of(numbers: &[u64]) -> Book
+    requires { ⌜ length (now numbers) ≡ bookSize ⌝ }
+    ensures { λ r. ⌜ r ≡ bookIn (was numbers) ⌝ }
+{
+    Book {
+        year: numbers[0],
+        month: numbers[1],
+        points: numbers[2],
+        suppliers: numbers[3],
+        elements: numbers[4],
+        periods: numbers[5],
+        holders: numbers[6],
+        states: numbers[7],
+        round: numbers[8],
+    }
+}
+
+pub fn put_book(numbers: &mut [u64], book: Book)
+    requires { ⌜ length (now numbers) ≡ bookSize ⌝ }
+    ensures { λ _. ⌜ left numbers ≡ numbersIn book ⌝ }
+{
+    numbers[0] = book.year;
+    numbers[1] = book.month;
+    numbers[2] = book.points;
+    numbers[3] = book.suppliers;
+    numbers[4] = book.elements;
+    numbers[5] = book.periods;
+    numbers[6] = book.holders;
+    numbers[7] = book.states;
+    numbers[8] = book.round;
+}
+
+pub fn fields_of(numbers: &[u64]) -> Fields
+    requires { ⌜ length (now numbers) ≡ fieldsSize ⌝ }
+    ensures { λ r. ⌜ r ≡ fieldsIn (was numbers) ⌝ }
+{
+    Fields {
+        kind: numbers[0],
+        role: numbers[1],
+        sender: numbers[2],
+        received: numbers[3],
+        point: numbers[4],
+        element: numbers[5],
+        day: numbers[6],
+        hour: numbers[7],
+        value: numbers[8],
+    }
+}
+
+// ---- answers to queries
+
+// The line's three numbers, or the question that says no; a refusal writes nothing.
+pub fn put_line(answer: LineAnswer, line: &mut [i64]) -> u64
+    requires { ⌜ (length (now line) ≡ lineSize) × InKrone answer ⌝ }
+    ensures { λ r. ⌜ (r ≡ lineResult answer .number) × (left line ≡ lineAfter answer (was line)) ⌝ }
+{
+    match answer {
+        LineAnswer::Line {
+            quantity,
+            kroner,
+            billionths,
+        } => {
+            line[0] = quantity;
+            line[1] = kroner;
+            line[2] = billionths as i64;
+            0
+        }
+        LineAnswer::Refused(asked) => number(asked),
+    }
+}
+
+// The rows of a part, at the front of a list. Linear in the part.
+pub fn copy_front(part: &[u64], rows: &mut [u64])
+    requires { ⌜ length (now part) ≤ length (now rows) ⌝ }
+    ensures { λ _. ⌜ left rows ≡ frontOf (was part) (was rows) ⌝ }
+{
+    let mut i = 0;
+    while i < part.len() {
+        rows[i] = part[i];
+        i += 1;
+    }
+}
+
+// The day, 36,525 for none, or the question that says no; a refusal writes nothing.
+pub fn put_day(answer: DayAnswer, day: &mut u64) -> u64
+    ensures { λ r. ⌜ (r ≡ dayAnswerNumber answer) × (left day ≡ dayAfter answer (was day)) ⌝ }
+{
+    match answer {
+        DayAnswer::Day(found) => {
+            *day = found;
+            0
+        }
+        DayAnswer::NoDay => {
+            *day = END_OF_DAYS;
+            0
+        }
+        DayAnswer::Refused(asked) => number(asked),
+    }
+}
