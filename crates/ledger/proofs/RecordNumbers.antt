@@ -1,16 +1,16 @@
 -- Records as numbers: six a record, in the order of its fields, at the front of a lent list of numbers.
-use mathlib.Core.Path.{_≡_, refl, sym, ap, ap₂, _∙_}
+use mathlib.Core.Path.{_≡_, refl, sym, ap, ap₂, subst, _∙_}
 use mathlib.Core.List.{List, [], _∷_, _++_, append-assoc, append-nil}
-use Prim.Native.Nat.{ℕ, suc, _+_, _-_, _*_, _≤_, _<_}
+use Prim.Native.Nat.{ℕ, zero, suc, _+_, _-_, _*_, _≤_, _<_}
 use native.Mathlib.Omega.{arith}
 use native.Mathlib.Numerals.{add-one}
-use lib.IntN.{ℤ}
-use lib.ListN.{length, set, take, drop, length-append, length-drop}
-use lib.Seq.{sets, sets-eq, take-at, drop-append-add, drop-drop}
+use lib.IntN.{ℤ, pos}
+use lib.ListN.{length, getD, set, take, drop, length-append, length-drop}
+use lib.Seq.{ext-getD, sets, sets-eq, take-at, drop-append-add, drop-drop}
 use Rattle.rules.specs.declared.Record.{Record}
 use Rattle.rules.specs.Basics.{listTo}
-use Rattle.rules.proofs.Ranges.{length-listTo}
-use Rattle.ledger.specs.RecordNumbers.{recordNumbers, numbersOf, numbersAfter}
+use Rattle.rules.proofs.Ranges.{length-listTo, getD-listTo}
+use Rattle.ledger.specs.RecordNumbers.{recordNumbers, numbersOf, numbersAfter, recordAt, RecordPlaces}
 
 pub length-six : (r : Record) → length (recordNumbers r) ≡ 6
 unfolding recordNumbers
@@ -67,3 +67,62 @@ pub numbers-step : (f : ℕ → Record) (i : ℕ) (lent out out′ : List ℤ) (
 unfolding listTo
 numbers-step f i lent out out′ r p q e h =
     q ∙ ap₂ (λ (x : List ℤ) (y : Record). sets x (i * 6) (recordNumbers y)) p e ∙ numbers-put (listTo f i) (f i) lent i (length-listTo f i) h ∙ ap (λ (n : ℕ). numbersAfter (listTo f n) lent) (sym (add-one i))
+
+-- ---- records that stand as numbers are read as they were written
+
+any-record : Record
+any-record = record { kind = 0; supplier = 0; element = 0; quantity = pos 0; kroner = pos 0; billionths = 0 }
+
+-- the record behind another
+module _ (r : Record) (xs : List ℤ) (i : ℕ) where
+  first-behind : getD (recordNumbers r ++ xs) (suc i * 6) (pos 0) ≡ getD xs (i * 6) (pos 0)
+  unfolding recordNumbers
+  first-behind = let n : suc i * 6 ≡ suc (suc (suc (suc (suc (suc (i * 6)))))) = omega arith in rw n
+
+  number-behind : (j : ℕ) → getD (recordNumbers r ++ xs) (suc i * 6 + j) (pos 0) ≡ getD xs (i * 6 + j) (pos 0)
+  unfolding recordNumbers
+  number-behind j = let n : suc i * 6 + j ≡ suc (suc (suc (suc (suc (suc (i * 6 + j)))))) = omega arith in rw n
+
+  record-behind : recordAt (recordNumbers r ++ xs) (suc i) ≡ recordAt xs i
+  unfolding recordAt
+  record-behind = rw (first-behind, number-behind 1, number-behind 2, number-behind 3, number-behind 4, number-behind 5)
+
+  places-behind : RecordPlaces xs i → RecordPlaces (recordNumbers r ++ xs) (suc i)
+  places-behind p =
+      record {
+        inside = let h = p .inside in rw (length-append (recordNumbers r) xs, length-six r) (omega arith);
+        kind = rw first-behind (p .kind);
+        supplier = rw (number-behind 1) (p .supplier);
+        element = rw (number-behind 2) (p .element);
+        billionths = rw (number-behind 5) (p .billionths);
+      }
+
+record-front : (rs : List Record) (xs : List ℤ) (i : ℕ) → i < length rs → recordAt (numbersOf rs ++ xs) i ≡ getD rs i any-record
+unfolding numbersOf
+record-front [] xs i h = absurd (omega arith)
+record-front (r ∷ rs) xs zero h = unfold recordAt recordNumbers in refl
+record-front (r ∷ rs) xs (suc i) h =
+    ap (λ (l : List ℤ). recordAt l (suc i)) (append-assoc (recordNumbers r) (numbersOf rs) xs)
+    ∙ record-behind r (numbersOf rs ++ xs) i
+    ∙ record-front rs xs i (omega arith)
+
+pub records-read : (rs : List Record) (lent : List ℤ) → listTo (recordAt (numbersAfter rs lent)) (length rs) ≡ rs
+unfolding numbersAfter
+records-read rs lent =
+    ext-getD any-record _ rs (length-listTo (recordAt (numbersAfter rs lent)) (length rs)) (λ i l.
+    let b : i < length rs = rw (length-listTo (recordAt (numbersAfter rs lent)) (length rs)) at l in
+    getD-listTo (recordAt (numbersAfter rs lent)) (length rs) i any-record b ∙ record-front rs _ i b)
+
+-- and each stands at its place
+places-front : (rs : List Record) (xs : List ℤ) (i : ℕ) → i < length rs → RecordPlaces (numbersOf rs ++ xs) i
+unfolding numbersOf
+places-front [] xs i h = absurd (omega arith)
+places-front (r ∷ rs) xs zero h =
+    unfold recordNumbers in record { inside = omega arith; kind = tt; supplier = tt; element = tt; billionths = tt }
+places-front (r ∷ rs) xs (suc i) h =
+    subst (λ (l : List ℤ). RecordPlaces l (suc i)) (sym (append-assoc (recordNumbers r) (numbersOf rs) xs))
+    (places-behind r (numbersOf rs ++ xs) i (places-front rs xs i (omega arith)))
+
+pub records-placed : (rs : List Record) (lent : List ℤ) (i : ℕ) → i < length rs → RecordPlaces (numbersAfter rs lent) i
+unfolding numbersAfter
+records-placed rs lent i h = places-front rs (drop (length rs * 6) lent) i h

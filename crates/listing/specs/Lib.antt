@@ -1,2 +1,2 @@
 -- What the functions of this crate promise.
-pub mod Replies
+pub mod Listed
