@@ -1,6 +1,3 @@
--- Laws of the lent list: for the walks, and for callers.
+-- What every hand-walked function shares, and laws of lists of records.
 pub mod Lending
 pub mod LocalArray
-pub mod ListReplies
-pub mod Texts
-pub mod Plain

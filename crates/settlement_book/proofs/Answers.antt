@@ -19,7 +19,7 @@ use Rattle.rules.specs.Lines.{Measure}
 use Rattle.rules.specs.World.{World, Opening, Tables, monthFirst, monthDays, stored, rowsOf}
 use Rattle.rules.specs.Questions.{question16}
 use Rattle.rules.specs.Opening.{openingAnswer, opened, afterOpening}
-use Rattle.rules.specs.Effects.{askBook}
+use Rattle.rules.specs.Effects.{askBook, answer}
 use Rattle.rules.specs.Lent.{Lists, worldIn}
 use Rattle.rules.specs.Queries.{LineResult, lineNumber, lineQuery, lineNamed, lineRefused, periodsNumber, periodsQuery, dayNumber, lacksHolder}
 use Rattle.rules.specs.Answers.{numberOf, lineResult}
@@ -188,6 +188,21 @@ stays-in w after r lent e z h =
 
 -- ---- a message
 
-pub replies-in : (w after : World) (f : Fields) (r : Reply) (lent out : List ℤ) → Replied w after f r lent out → (n : ℕ) → n ≡ numberOf (r .answer)
-    → RepliesIn w after f n (r .records) lent out
-replies-in w after f r lent out h n e = record { number = e ∙ h .number; world = h .world; list = h .list; count = h .count }
+-- of a book that is not well formed
+pub answer-book : (w : World) (f : Fields) (room : ℕ) → askBook w 0 ≢ 0 → answer w f room ≡ askBook w 0
+unfolding answer
+answer-book w f room h = book-refused w h _
+
+-- of the book and the fields that numbers name; the book's numbers are put
+pub replies-in : {b b₀ : Book} {f f₀ : Fields} (o after : Lists) (r : Reply) (lent out : List ℤ) (numbers : List ℕ) (n : ℕ) → b ≡ b₀ → f ≡ f₀
+    → Replied (worldIn b o) (worldIn (r .book) after) f r lent out → numbers ≡ numbersIn (r .book) → n ≡ numberOf (r .answer)
+    → RepliesIn (worldIn b₀ o) (worldIn (bookIn numbers) after) f₀ n (r .records) lent out
+replies-in {b = b} {b₀ = b₀} {f = f} {f₀ = f₀} o after r lent out numbers n e d h k i =
+    let h₁ = subst (λ (x : Book). Replied (worldIn x o) (worldIn (r .book) after) f r lent out) e h in
+    let h₂ = subst (λ (x : Fields). Replied (worldIn b₀ o) (worldIn (r .book) after) x r lent out) d h₁ in
+    record {
+      number = i ∙ h₂ .number;
+      world = ap (λ (x : List ℕ). worldIn (bookIn x) after) k ∙ h₂ .world;
+      list = h₂ .list;
+      count = h₂ .count;
+    }
