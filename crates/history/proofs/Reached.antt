@@ -1,13 +1,12 @@
 -- A run from an opened book is the run that demand 3 speaks of. By the function's promise and the proof of demand 3; the records are read
 -- back from the list number by number.
-use Prim.Native.Nat.{ℕ, _*_}
+use Prim.Native.Nat.{ℕ}
 use mathlib.Core.Path.{_≡_, refl, sym, ap, ap₂, subst, _∙_}
 use mathlib.Core.List.{List, [], _∷_, _++_, append-assoc}
 use lib.IntN.{ℤ}
 use lib.ListN.{length, getD, drop}
 use lib.Seq.{getD-at}
 use Rattle.rules.specs.declared.Fields.{Fields}
-use Rattle.rules.specs.declared.Record.{Record}
 use Rattle.rules.specs.Lines.{Measure}
 use Rattle.rules.specs.World.{World, InBook}
 use Rattle.rules.specs.Effects.{answer}
@@ -15,22 +14,11 @@ use Rattle.rules.specs.Opening.{openingAnswer, opened}
 use Rattle.rules.specs.Queries.{lineQuery, named}
 use Rattle.rules.specs.Claim.{Event, advanceAll, begin, reached, total}
 use Rattle.rules.proofs.Demand3.{demand3}
-use Rattle.ledger.specs.RecordNumbers.{recordNumbers, numbersOf, numbersAfter}
+use Rattle.ledger.proofs.RecordNumbers.{records-read}
 use Rattle.settlement.specs.Replies.{roomIn}
 use Rattle.history.specs.Runs.{lentWith, eventsFrom, answersTo, Followed}
 use Rattle.history.specs.FromOpening.{recordsIn, eventsOf, FromOpening}
 use Rattle.history.proofs.Turns.{left, events-more, answers-more, length-answers}
-
--- ---- records read back from the list
-
-records-read : (rs : List Record) (rest : List ℤ) → recordsIn (length rs) (numbersOf rs ++ rest) ≡ rs
-unfolding recordsIn numbersOf recordNumbers
-records-read [] rest = refl
-records-read (r ∷ rs) rest = ap (λ (l : List Record). r ∷ l) (records-read rs rest)
-
-records-back : (rs : List Record) (lent : List ℤ) → recordsIn (length rs) (numbersAfter rs lent) ≡ rs
-unfolding numbersAfter
-records-back rs lent = records-read rs (drop (length rs * 6) lent)
 
 -- ---- the last message
 
@@ -48,7 +36,7 @@ last-answer w fs f room rest =
 module _ (w after : World) (fs : List Fields) (count : ℕ) (lent out : List ℤ) (table answered : List ℕ)
     (a : openingAnswer w ≡ 0) (g : Followed (opened w) after fs count lent out table answered) where
   read-back : recordsIn count out ≡ reached w (eventsOf w fs lent) .records
-  read-back = ap₂ recordsIn (g .count-is) (g .list) ∙ records-back (reached w (eventsOf w fs lent) .records) lent
+  read-back = ap₂ recordsIn (g .count-is) (g .list) ∙ records-read (reached w (eventsOf w fs lent) .records) lent
 
   rounds-add : (gs : List Fields) (f : Fields) → fs ≡ gs ++ (f ∷ []) → f .kind ≡ 8 → getD answered (length gs) 0 ≡ 0
       → (m : Measure) (s e : ℕ) → InBook (w .opening) s e → total m s e (recordsIn count out) ≡ named m (lineQuery after s e)

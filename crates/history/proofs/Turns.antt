@@ -24,7 +24,7 @@ use Rattle.ledger.specs.RecordNumbers.{numbersOf, numbersAfter, recordNumbers}
 use Rattle.ledger.proofs.RecordNumbers.{length-numbers, length-after, numbers-none}
 use Rattle.settlement.specs.declared.Reply.{Reply}
 use Rattle.settlement.specs.Replies.{roomIn, Replied}
-use Rattle.history.specs.Runs.{fieldsOf, messagesOf, anyRecord, lentWith, eventsFrom, runFrom, answersTo, Followed}
+use Rattle.history.specs.Runs.{fieldsAt, messagesOf, anyRecord, lentWith, eventsFrom, runFrom, answersTo, Followed}
 
 -- ---- the records of a message fit the list that is lent with it
 
@@ -86,10 +86,10 @@ unfolding eventsFrom left
 events-more w [] f room = refl
 events-more w (g ∷ fs) f room = ap (λ (vs : List Event). lentWith g room ∷ vs) (events-more (step w g room) fs f _)
 
-advance-more : (h : History) (vs : List Event) (v : Event) → advanceAll h (vs ++ (v ∷ [])) ≡ advance (advanceAll h vs) v
+advance-snoc : (h : History) (vs : List Event) (v : Event) → advanceAll h (vs ++ (v ∷ [])) ≡ advance (advanceAll h vs) v
 unfolding advanceAll
-advance-more h [] v = refl
-advance-more h (u ∷ us) v = advance-more (advance h u) us v
+advance-snoc h [] v = refl
+advance-snoc h (u ∷ us) v = advance-snoc (advance h u) us v
 
 pub answers-more : (h : History) (vs : List Event) (v : Event)
     → answersTo (h .world) (vs ++ (v ∷ [])) ≡ answersTo (h .world) vs ++ (answer (advanceAll h vs .world) (v .fields) (length (v .lent)) ∷ [])
@@ -177,7 +177,7 @@ module _ (w mid : World) (fs : List Fields) (count : ℕ) (lent list : List ℤ)
     room = left w fs (roomIn lent)
 
     run-more : runFrom w (fs ++ (f ∷ [])) (roomIn lent) ≡ advance h (lentWith f room)
-    run-more = ap (advanceAll (begin w)) (events-more w fs f (roomIn lent)) ∙ advance-more (begin w) (eventsFrom w fs (roomIn lent)) (lentWith f room)
+    run-more = ap (advanceAll (begin w)) (events-more w fs f (roomIn lent)) ∙ advance-snoc (begin w) (eventsFrom w fs (roomIn lent)) (lentWith f room)
 
     world-more : after ≡ runFrom w (fs ++ (f ∷ [])) (roomIn lent) .world
     world-more = q .world ∙ rw (room-left, g .world) (sym (ap (λ x. x .world) run-more ∙ advance-world h f room))
@@ -222,9 +222,9 @@ module _ (w mid : World) (fs : List Fields) (count : ℕ) (lent list : List ℤ)
 
 length-messages : (inputs : List ℕ) (i : ℕ) → length (messagesOf inputs i) ≡ i
 unfolding messagesOf
-length-messages inputs i = length-listTo (fieldsOf inputs) i
+length-messages inputs i = length-listTo (fieldsAt inputs) i
 
-messages-more : (inputs : List ℕ) (i : ℕ) → messagesOf inputs (i + 1) ≡ messagesOf inputs i ++ (fieldsOf inputs i ∷ [])
+messages-more : (inputs : List ℕ) (i : ℕ) → messagesOf inputs (i + 1) ≡ messagesOf inputs i ++ (fieldsAt inputs i ∷ [])
 unfolding messagesOf listTo
 messages-more inputs i = rw (add-one i)
 
@@ -233,7 +233,7 @@ module _ (w mid : World) (inputs : List ℕ) (i count : ℕ) (lent list : List �
   answered-same l = answered-long w mid (messagesOf inputs i) count lent list table answered g (rw (length-messages inputs i) l)
 
   -- one turn of the loop
-  pub followed-turn : (after : World) (f : Fields) (r : Reply) (out : List ℤ) (n : ℕ) → i < length table → f ≡ fieldsOf inputs i
+  pub followed-turn : (after : World) (f : Fields) (r : Reply) (out : List ℤ) (n : ℕ) → i < length table → f ≡ fieldsAt inputs i
       → Replied mid after f r (drop (count * 6) list) (drop (count * 6) out) → take (count * 6) out ≡ take (count * 6) list → n ≡ numberOf (r .answer)
       → Followed w after (messagesOf inputs (i + 1)) (count + r .records) lent out table (set answered i n)
   followed-turn after f r out n l e q p a =

@@ -1,9 +1,9 @@
 -- What a run from an opened book leaves: demand 3, of the book and the list of records as the function returns them.
-use Prim.Native.Nat.{ℕ, zero, suc}
+use Prim.Native.Nat.{ℕ}
 use mathlib.Core.Path.{_≡_}
 use mathlib.Core.List.{List, [], _∷_, _++_}
-use lib.IntN.{ℤ, pos, natAbs}
-use lib.ListN.{length, getD, drop}
+use lib.IntN.{ℤ}
+use lib.ListN.{length, getD}
 use Rattle.rules.specs.declared.Fields.{Fields}
 use Rattle.rules.specs.declared.Record.{Record}
 use Rattle.rules.specs.Lines.{Measure, line}
@@ -12,21 +12,14 @@ use Rattle.rules.specs.Opening.{opened}
 use Rattle.rules.specs.Queries.{lineQuery, lineNamed, named}
 use Rattle.rules.specs.Fresh.{freshFacts}
 use Rattle.rules.specs.Claim.{Event, reached, total, Kept}
+use Rattle.rules.specs.Basics.{listTo}
+use Rattle.ledger.specs.RecordNumbers.{recordAt}
 use Rattle.settlement.specs.Replies.{roomIn}
 use Rattle.history.specs.Runs.{eventsFrom}
 
--- the first n records of a list of numbers, six a record
-unfoldable pub recordsIn : ℕ → List ℤ → List Record
-recordsIn zero xs = []
-recordsIn (suc n) xs =
-    record {
-      kind = natAbs (getD xs 0 (pos 0));
-      supplier = natAbs (getD xs 1 (pos 0));
-      element = natAbs (getD xs 2 (pos 0));
-      quantity = getD xs 3 (pos 0);
-      kroner = getD xs 4 (pos 0);
-      billionths = natAbs (getD xs 5 (pos 0));
-    } ∷ recordsIn n (drop 6 xs)
+-- the first n records of a list of numbers
+abbrev pub recordsIn : ℕ → List ℤ → List Record
+recordsIn n numbers = listTo (recordAt numbers) n
 
 -- the messages as the claim has them, from the book that the opening of w leaves
 abbrev pub eventsOf : World → List Fields → List ℤ → List Event

@@ -3,7 +3,7 @@ use Prim.Native.Nat.{ℕ, _+_, _-_, _*_}
 use mathlib.Core.Path.{_≡_}
 use mathlib.Core.List.{List, [], _∷_, _++_}
 use lib.IntN.{ℤ, pos}
-use lib.ListN.{length, getD, drop, replicate}
+use lib.ListN.{length, take, drop, replicate}
 use Rattle.rules.specs.declared.Fields.{Fields}
 use Rattle.rules.specs.declared.Record.{Record}
 use Rattle.rules.specs.Basics.{listTo}
@@ -12,27 +12,17 @@ use Rattle.rules.specs.Effects.{answer, step, recordsOf}
 use Rattle.rules.specs.Claim.{Event, History, advanceAll, begin}
 use Rattle.ledger.specs.RecordNumbers.{numbersAfter}
 use Rattle.settlement.specs.Replies.{roomIn}
+use Rattle.settlement_book.specs.Numbers.{fieldsSize, fieldsIn}
 
 -- ---- messages as numbers
 
--- nine a message: kind, role, sender, received, point, element, day, hour, value
-unfoldable pub fieldsOf : List ℕ → ℕ → Fields
-fieldsOf inputs i =
-    record {
-      kind = getD inputs (i * 9) 0;
-      role = getD inputs (i * 9 + 1) 0;
-      sender = getD inputs (i * 9 + 2) 0;
-      received = getD inputs (i * 9 + 3) 0;
-      point = getD inputs (i * 9 + 4) 0;
-      element = getD inputs (i * 9 + 5) 0;
-      day = getD inputs (i * 9 + 6) 0;
-      hour = getD inputs (i * 9 + 7) 0;
-      value = getD inputs (i * 9 + 8) 0;
-    }
+-- the one at a place
+abbrev pub fieldsAt : List ℕ → ℕ → Fields
+fieldsAt inputs i = fieldsIn (take fieldsSize (drop (i * fieldsSize) inputs))
 
 -- the first n of them
 unfoldable pub messagesOf : List ℕ → ℕ → List Fields
-messagesOf inputs n = listTo (fieldsOf inputs) n
+messagesOf inputs n = listTo (fieldsAt inputs) n
 
 -- ---- the rules' run
 

@@ -15,6 +15,9 @@ use validation::questions::number;
 
 // ---- a book and a message
 
+// The numbers of a message.
+pub const FIELDS_SIZE: usize = 9;
+
 pub fn book_of(numbers: &[u64]) -> Book
     requires { ⌜ length (now numbers) ≡ bookSize ⌝ }
     ensures { λ r. ⌜ r ≡ bookIn (was numbers) ⌝ }
