@@ -1,73 +1,108 @@
--- What each case of the code leaves is what the field does. Assumes nothing.
-use Prim.Native.Nat.{ℕ, _+_, _≤_}
+-- What each case of the code leaves is what the field does.
+use Prim.Native.Nat.{ℕ, _+_, _*_, _≤_}
+use native.Mathlib.Numerals.{add-one}
 use native.Mathlib.Omega.{arith}
 use mathlib.Core.Path.{_≡_, refl, sym, ap, subst, _∙_}
 use mathlib.Core.Bool.{true, false}
 use mathlib.Core.List.{List, [], _∷_, _++_}
-use lib.ListN.{take, drop}
+use lib.IntN.{ℤ}
+use lib.ListN.{length, take, drop}
 use Rattle.rules.specs.declared.Book.{Book}
 use Rattle.rules.specs.declared.Fields.{Fields}
 use Rattle.rules.specs.World.{World}
 use Rattle.rules.specs.Whole.{Whole}
-use Rattle.queries.specs.Promises.{freshBook}
+use Rattle.rules.specs.Effects.{step}
+use Rattle.rules.specs.Lent.{Lists, worldIn, lendElements}
+use Rattle.recording.specs.Opened.{freshBook}
+use Rattle.settlement.specs.declared.Reply.{Reply}
+use Rattle.settlement.specs.Replies.{roomIn, Replied}
 use Rattle.file.specs.declared.fields.Phase.{Phase}
 use Rattle.file.specs.declared.fields.Found.{Found}
 use Rattle.file.specs.declared.fields.Found.the-variants.{Month, Element, Message, End, More, Broken}
 use Rattle.file.specs.Lines.{refusedLine, longestLine, Written}
-use Rattle.file.specs.Program.{endedBy, Heading, describedAll, pricesAll}
+use Rattle.file.specs.Program.{endedBy, recordPlaces, answered, Heading, describedAll, pricesAll}
 use Rattle.file.proofs.PlacedLaws.{loosened}
-use Rattle.listing.proofs.Texts.{nothing-written}
 use Rattle.runner.specs.declared.Progress.{Progress}
 use Rattle.runner.specs.declared.Advanced.{Advanced}
 use Rattle.runner.specs.Stages.{Stage, start, elements, messages, over, quiet, broken, moveOn, isMore}
-use Rattle.runner.specs.Parts.{Lent, worldIn}
-use Rattle.runner.specs.Holding.{HoldsValues, Represents, longestText, Advances, advancedTo, waitsAt, TakesMessage}
+use Rattle.runner.specs.declared.parts.Ends.{Ends}
+use Rattle.runner.specs.Parts.{Sized, Fitted, endsOf, cutTo, frontsWorld}
+use Rattle.runner.specs.Texts.{longestText, advancedTo, waitsAt, replyText}
+use Rattle.runner.specs.Holding.{HoldsValues, Represents, Advances}
 use Rattle.runner.proofs.StageLaws.{never}
+use Rattle.runner.proofs.PartLaws.{within, AsLong, putBack, parts-back, ends-stay, points-stay}
+use Rattle.runner.proofs.TextLaws.{nothing-written, reply-text}
 
 -- the run ends with question 1
-pub arm-broken : (at : ℕ) (b : Book) (r : Advanced) (t : Lent) (out after : List ℕ) (from written number : ℕ) → Written longestLine out after from written (refusedLine 0 1)
+pub arm-broken : (at : ℕ) (b : Book) (r : Advanced) (t : Lists) (out after : List ℕ) (from written number : ℕ) → Written longestLine out after from written (refusedLine 0 1)
     → r ≡ advancedTo Phase.Messages true b number at written → Advances (broken at 1) (r .progress) t out after (r .next) from (r .written)
 unfolding broken endedBy
 arm-broken at b r t out after from written number w e = rw e (record { holds = refl; text = loosened (omega arith) w; place = refl })
 
 -- the input ends
-pub arm-over : (at : ℕ) (b : Book) (r : Advanced) (t : Lent) (out : List ℕ) (from : ℕ) → r ≡ advancedTo Phase.Messages true b 1 at from → Advances (quiet over at) (r .progress) t out out (r .next) from (r .written)
+pub arm-over : (at : ℕ) (b : Book) (r : Advanced) (t : Lists) (out : List ℕ) (from : ℕ) → r ≡ advancedTo Phase.Messages true b 1 at from → Advances (quiet over at) (r .progress) t out out (r .next) from (r .written)
 arm-over at b r t out from e = rw e (record { holds = refl; text = nothing-written longestText out from; place = refl })
 
 -- the month
-no-values : (year month points suppliers : ℕ) (t : Lent) → HoldsValues (freshBook year month points suppliers 0) (t .elementData) (t .prices) (record { year = year; month = month; points = points; suppliers = suppliers }) []
+no-values : (year month points suppliers : ℕ) (t : Lists) → HoldsValues (freshBook year month points suppliers 0) (t .elementData) (t .prices) (record { year = year; month = month; points = points; suppliers = suppliers }) []
 unfolding describedAll pricesAll
 no-values year month points suppliers t = record { book = refl; described = λ h. refl; priced = λ h. refl }
 
-pub arm-month : (at year month points suppliers next : ℕ) (bytes : List ℕ) (t : Lent) (out : List ℕ) (from : ℕ) (b : Book) (r : Advanced) → b ≡ freshBook year month points suppliers 0
+pub arm-month : (at year month points suppliers next : ℕ) (bytes : List ℕ) (t : Lists) (out : List ℕ) (from : ℕ) (b : Book) (r : Advanced) → b ≡ freshBook year month points suppliers 0
     → r ≡ advancedTo Phase.Elements false b 1 next from → Advances (moveOn at start (Month year month points suppliers next) bytes) (r .progress) t out out (r .next) from (r .written)
 unfolding moveOn
 arm-month at year month points suppliers next bytes t out from b r f e =
     rw (e, f) (record { holds = (refl, refl, no-values year month points suppliers t); text = nothing-written longestText out from; place = refl })
 
 -- an element
-pub arm-element : (at from size next : ℕ) (bytes : List ℕ) (h : Heading) (values : List (List ℕ)) (t : Lent) (out : List ℕ) (place : ℕ) (b : Book) (r : Advanced)
+pub arm-element : (at from size next : ℕ) (bytes : List ℕ) (h : Heading) (values : List (List ℕ)) (t : Lists) (out : List ℕ) (place : ℕ) (b : Book) (r : Advanced)
     → HoldsValues b (t .elementData) (t .prices) h (values ++ (take size (drop from bytes) ∷ [])) → r ≡ advancedTo Phase.Elements false b 1 next place
     → Advances (moveOn at (elements h values) (Element from size next) bytes) (r .progress) t out out (r .next) place (r .written)
 unfolding moveOn
 arm-element at from size next bytes h values t out place b r v e = rw e (record { holds = (refl, refl, v); text = nothing-written longestText out place; place = refl })
 
--- a message of an open book
-pub arm-message : (at next number : ℕ) (f : Fields) (bytes : List ℕ) (b : Book) (t t′ : Lent) (out after : List ℕ) (from : ℕ) (r : Advanced) → b .points ≤ 16 → TakesMessage (worldIn b t) f number next r t′ out after from
-    → Advances (moveOn at (messages (worldIn b t) number) (Message f next) bytes) (r .progress) t′ out after (r .next) from (r .written)
-unfolding moveOn worldIn
-arm-message at next number f bytes b t t′ out after from r k m =
-    let z = m .made in
-    record {
-      holds = (
-        ap (λ (x : Advanced). x .progress .over) z,
-        ap (λ (x : Advanced). x .progress .phase) z,
-        record { world = sym (m .world); whole = subst (λ (x : World). Whole x) (m .world) (m .whole); points = rw (m .points) k },
-        ap (λ (x : Advanced). x .progress .number) z,
-      );
-      text = m .text;
-      place = ap (λ (x : Advanced). x .next) z;
-    }
+-- a message of an open book: the tables with the parts back in their places hold the book that it leaves
+module _ (b : Book) (t x : Lists) (e : Ends) (q : e ≡ endsOf b) (s : Sized t) (g : Fitted b) (l : AsLong e t x) (f : Fields) (r : Reply) where
+  abbrev parts : Lists
+  parts = lendElements (take (e .described) (t .elementData)) (take (e .priced) (t .prices)) x
+
+  message-world : (room : ℕ) → worldIn (r .book) parts ≡ step (worldIn b (cutTo e t)) f room
+      → frontsWorld (r .book) (putBack e t x) ≡ step (frontsWorld b t) f room
+  message-world room h =
+      let n : endsOf (r .book) ≡ e = ends-stay (r .book) b (cutTo e t) parts f room h ∙ sym q in
+      ap (λ (y : Ends). worldIn (r .book) (cutTo y (putBack e t x))) n
+      ∙ ap (worldIn (r .book)) (parts-back e t x (within b g e q t s) l)
+      ∙ h ∙ ap (λ (y : Ends). step (worldIn b (cutTo y t)) f room) q
+
+  pub arm-message : (at next number : ℕ) (bytes : List ℕ) (lent records : List ℤ) → length lent ≡ recordPlaces * 6
+      → Replied (worldIn b (cutTo e t)) (worldIn (r .book) parts) f r lent records → Whole (worldIn (r .book) parts) → b .points ≤ 16
+      → (out after : List ℕ) (from : ℕ) (a : Advanced) → Written longestText out after from (a .written) (replyText r number records)
+      → a ≡ advancedTo Phase.Messages false (r .book) (number + 1) next (a .written)
+      → Advances (moveOn at (messages (frontsWorld b t) number) (Message f next) bytes) (a .progress) (putBack e t x) out after (a .next) from (a .written)
+  unfolding moveOn
+  arm-message at next number bytes lent records long p c k out after from a v z =
+      let room : roomIn lent ≡ recordPlaces = omega arith in
+      let w : frontsWorld (r .book) (putBack e t x) ≡ step (frontsWorld b t) f recordPlaces =
+          message-world recordPlaces (p .world ∙ ap (step (worldIn b (cutTo e t)) f) room) in
+      let c′ : Whole (step (frontsWorld b t) f recordPlaces) =
+          subst (λ (y : World). Whole y) (p .world ∙ ap (step (worldIn b (cutTo e t)) f) room ∙ ap (λ (y : Ends). step (worldIn b (cutTo y t)) f recordPlaces) q) c in
+      let text : replyText r number records ≡ answered (frontsWorld b t) f number =
+          reply-text (worldIn b (cutTo e t)) (worldIn (r .book) parts) f r lent records long p number
+          ∙ ap (λ (y : Ends). answered (worldIn b (cutTo y t)) f number) q in
+      record {
+        holds = (
+          ap (λ (y : Advanced). y .progress .over) z,
+          ap (λ (y : Advanced). y .progress .phase) z,
+          rw (ap (λ (y : Advanced). y .progress .book) z) (record {
+            world = sym w;
+            whole = c′;
+            points = rw (points-stay (r .book) b (cutTo e t) parts f (roomIn lent) (p .world)) k;
+          }),
+          ap (λ (y : Advanced). y .progress .number) z ∙ add-one number,
+        );
+        text = rw text at v;
+        place = ap (λ (y : Advanced). y .next) z;
+      }
 
 -- ---- more bytes are needed
 
@@ -83,7 +118,7 @@ wait-move at stage (Message f next) bytes m = never (sym m)
 wait-move at stage End bytes m = never (sym m)
 wait-move at stage Broken bytes m = never (sym m)
 
-pub arm-waits : (at : ℕ) (stage : Stage) (f : Found) (bytes : List ℕ) (p : Progress) (t : Lent) (out : List ℕ) (from : ℕ) (r : Advanced) → isMore f ≡ true → Represents p t stage → r ≡ waitsAt p at from
+pub arm-waits : (at : ℕ) (stage : Stage) (f : Found) (bytes : List ℕ) (p : Progress) (t : Lists) (out : List ℕ) (from : ℕ) (r : Advanced) → isMore f ≡ true → Represents p t stage → r ≡ waitsAt p at from
     → Advances (moveOn at stage f bytes) (r .progress) t out out (r .next) from (r .written)
 arm-waits at stage f bytes p t out from r m h e = rw (wait-move at stage f bytes m, e) (record { holds = h; text = nothing-written longestText out from; place = refl })
 
@@ -98,7 +133,7 @@ start-messages e = let z : _≡_ {A = ℕ} 0 1 = cc in absurd (omega arith)
 elements-messages : {P : Type 0} → Phase.Elements ≡ Phase.Messages → P
 elements-messages e = let z : _≡_ {A = ℕ} 0 1 = cc in absurd (omega arith)
 
-module _ (p : Progress) (t : Lent) (o : p .over ≡ false) where
+module _ (p : Progress) (t : Lists) (o : p .over ≡ false) where
   pub stage-start : p .phase ≡ Phase.Start → (stage : Stage) → Represents p t stage → stage ≡ start
   stage-start e start h = refl
   stage-start e (elements g values) h = start-elements (sym e ∙ h .1)
@@ -118,8 +153,8 @@ module _ (p : Progress) (t : Lent) (o : p .over ≡ false) where
   stage-elements e over h = never (sym h ∙ o)
 
   pub record InMessages (stage : Stage) : Type 0 where
-    pub is : stage ≡ messages (worldIn (p .book) t) (p .number)
-    pub whole : Whole (worldIn (p .book) t)
+    pub is : stage ≡ messages (frontsWorld (p .book) t) (p .number)
+    pub whole : Whole (frontsWorld (p .book) t)
     pub points : p .book .points ≤ 16
 
   pub stage-messages : p .phase ≡ Phase.Messages → (stage : Stage) → Represents p t stage → InMessages stage

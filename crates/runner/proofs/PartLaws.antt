@@ -1,5 +1,4 @@
 -- The parts of the tables that a book uses: they lie within the tables, and a part that was lent on comes back as the front of its table.
--- Assumes nothing.
 use Prim.Native.Nat.{ℕ, _*_, _≤_}
 use native.Mathlib.Nat.{mul-le-mul}
 use native.Mathlib.Omega.{arith}
@@ -7,29 +6,21 @@ use mathlib.Core.Path.{_≡_, refl, ap, _∙_}
 use mathlib.Core.Bool.{true}
 use mathlib.Core.List.{List, _++_}
 use mathlib.Core.Option.{Option, none, some}
-use lib.IntN.{ℤ}
 use lib.ListN.{length, take, drop}
 use lib.Seq.{length-take-le, take-at}
-use lib.Dec.{leb}
-use borrow.Author.Tests.{leb-true}
 use Rattle.calendar.specs.Gregorian.{daysOfMonth}
 use Rattle.calendar.proofs.MonthLaws.{days-range}
 use Rattle.rules.specs.declared.Book.{Book}
 use Rattle.rules.specs.declared.Body.{Body}
 use Rattle.rules.specs.declared.Fields.{Fields}
-use Rattle.rules.specs.Basics.{within}
-use Rattle.rules.specs.World.{Opening, World, worldOf}
-use Rattle.rules.specs.WellFormed.{withinLimits, question2}
+use Rattle.rules.specs.World.{Opening, World}
+use Rattle.rules.specs.WellFormed.{withinLimits}
 use Rattle.rules.specs.Effects.{posted, accepted, stepBy, step}
-use Rattle.rules.proofs.Tests.{both}
-use Rattle.rules.proofs.Ranges.{within-low, within-high}
-use Rattle.rules.proofs.Parts.{limits}
+use Rattle.rules.specs.Lent.{Lists, worldIn, openingIn, lendElements}
+use Rattle.rules.proofs.Parts.{limits, lengths}
 use Rattle.rules.specs.Whole.{Whole}
-use Rattle.file.specs.Program.{recordPlaces}
-use Rattle.listing.specs.declared.Printed.{Printed}
-use Rattle.listing.specs.Replies.{Texted}
-use Rattle.runner.specs.declared.Ends.{Ends}
-use Rattle.runner.specs.Parts.{Lent, lentOf, Sized, Fitted, isFitted, endsOf, worldIn}
+use Rattle.runner.specs.declared.parts.Ends.{Ends}
+use Rattle.runner.specs.Parts.{Sized, Fitted, endsOf, cutTo, fronts, frontsWorld}
 
 -- ---- the parts lie within the tables
 
@@ -40,7 +31,7 @@ pub record EndsFit (e : Ends) : Type 0 where
   pub blocks : e .blocks ≤ 16
   pub lines : e .lines ≤ 3072
 
-pub record Within (e : Ends) (t : Lent) : Type 0 where
+pub record Within (e : Ends) (t : Lists) : Type 0 where
   pub described : e .described ≤ length (t .elementData)
   pub priced : e .priced ≤ length (t .prices)
   pub readings : e .readings ≤ length (t .readings)
@@ -51,48 +42,76 @@ pub record Within (e : Ends) (t : Lent) : Type 0 where
 pub month-fits : (points year month : ℕ) → points ≤ 16 → points * daysOfMonth year month ≤ 16 * 31
 month-fits points year month h = mul-le-mul h (days-range year month .1)
 
-pub ends-fit : (b : Book) → Fitted b → EndsFit (endsOf b)
+pub ends-fit : (b : Book) → Fitted b → (e : Ends) → e ≡ endsOf b → EndsFit e
 unfolding endsOf
-ends-fit b f =
+ends-fit b f e q =
     let p = month-fits (b .points) (b .year) (b .month) (f .points) in
     let l : b .suppliers * b .elements ≤ 16 * 64 = mul-le-mul (f .suppliers) (f .elements) in
-    let e = f .elements in
-    record { described = omega arith; priced = omega arith; readings = omega arith; blocks = f .points; lines = omega arith }
+    let n = f .elements in
+    rw q (record { described = omega arith; priced = omega arith; readings = omega arith; blocks = f .points; lines = omega arith })
 
--- ---- what the test says
-
-pub fitted : (b : Book) → isFitted b ≡ true → Fitted b
-unfolding isFitted
-fitted b h =
-    let h1 = both (within 2000 2099 (b .year)) _ h in
-    let h2 = both (within 1 12 (b .month)) _ (h1 .1) in
-    let h3 = both (leb (b .points) 16) _ (h2 .1) in
-    let h4 = both (leb (b .suppliers) 16) (leb (b .elements) 64) (h3 .1) in
+pub within : (b : Book) → Fitted b → (e : Ends) → e ≡ endsOf b → (t : Lists) → Sized t → Within e t
+within b g e q t s =
+    let f = ends-fit b g e q in
     record {
-      month = record {
-        first-year = within-low 2000 2099 (b .year) (h1 .0);
-        last-year = within-high 2000 2099 (b .year) (h1 .0);
-        january = within-low 1 12 (b .month) (h2 .0);
-        december = within-high 1 12 (b .month) (h2 .0);
-      };
-      points = leb-true _ _ (h3 .0);
-      suppliers = leb-true _ _ (h4 .0);
-      elements = leb-true _ _ (h4 .1);
+      described = omega (arith, f .described, s .elementData);
+      priced = omega (arith, f .priced, s .prices);
+      readings = omega (arith, f .readings, s .readings);
+      blocks = omega (arith, f .blocks, s .blocks);
+      lines = omega (arith, f .lines, s .lines);
+      sent = omega (arith, f .lines, s .sent);
     }
 
+-- ---- books that they fit
+
+pub limited-fitted : (b : Book) (o : Lists) → withinLimits (openingIn b o) ≡ true → b .points ≤ 16 → Fitted b
+limited-fitted b o h p =
+    let l = limits (openingIn b o) h in
+    record { month = l .month; points = p; suppliers = l .suppliers; elements = l .elements }
+
 -- an open book of at most 16 points
-pub whole-fitted : (b : Book) (t : Lent) → Whole (worldIn b t) → b .points ≤ 16 → Fitted b
-unfolding worldIn question2
+pub whole-fitted : (b : Book) (t : Lists) → Whole (frontsWorld b t) → b .points ≤ 16 → Fitted b
 whole-fitted b t w p =
-    let l = limits (worldIn b t .opening) (both (withinLimits (worldIn b t .opening)) _ (w .limited) .0) in
+    let l = lengths (frontsWorld b t) w .limited in
     record { month = l .month; points = p; suppliers = l .suppliers; elements = l .elements }
 
 -- ---- a part that was lent on comes back
 
-pub front-back : {A : Type 0} (n : ℕ) (xs ys : List A) → length ys ≡ length (take n xs) → n ≤ length xs → take n (ys ++ drop n xs) ≡ ys
+front-back : {A : Type 0} (n : ℕ) (xs ys : List A) → length ys ≡ length (take n xs) → n ≤ length xs → take n (ys ++ drop n xs) ≡ ys
 front-back n xs ys l h = take-at ys (drop n xs) n (l ∙ length-take-le n xs h)
 
--- a message leaves the month and the counts
+-- the tables with the parts x back in their places
+abbrev pub putBack : Ends → (before parts : Lists) → Lists
+putBack e t x =
+    record {
+      elementData = t .elementData;
+      prices = t .prices;
+      links = x .links;
+      holders = x .holders;
+      states = x .states;
+      readings = x .readings ++ drop (e .readings) (t .readings);
+      blocks = x .blocks ++ drop (e .blocks) (t .blocks);
+      lines = x .lines ++ drop (e .lines) (t .lines);
+      sent = x .sent ++ drop (e .lines) (t .sent);
+    }
+
+-- parts that are as long as they were
+pub record AsLong (e : Ends) (t x : Lists) : Type 0 where
+  pub readings : length (x .readings) ≡ length (take (e .readings) (t .readings))
+  pub blocks : length (x .blocks) ≡ length (take (e .blocks) (t .blocks))
+  pub lines : length (x .lines) ≡ length (take (e .lines) (t .lines))
+  pub sent : length (x .sent) ≡ length (take (e .lines) (t .sent))
+
+pub parts-back : (e : Ends) (t x : Lists) → Within e t → AsLong e t x
+    → cutTo e (putBack e t x) ≡ lendElements (take (e .described) (t .elementData)) (take (e .priced) (t .prices)) x
+parts-back e t x v l =
+    rw (front-back (e .readings) (t .readings) (x .readings) (l .readings) (v .readings),
+      front-back (e .blocks) (t .blocks) (x .blocks) (l .blocks) (v .blocks),
+      front-back (e .lines) (t .lines) (x .lines) (l .lines) (v .lines),
+      front-back (e .lines) (t .sent) (x .sent) (l .sent) (v .sent))
+
+-- ---- a message leaves the month and the counts
+
 by-opening : (w : World) (b : Option Body) → stepBy w b .opening ≡ w .opening
 unfolding stepBy posted
 by-opening w none = refl
@@ -102,51 +121,17 @@ pub step-opening : (w : World) (f : Fields) (room : ℕ) → step w f room .open
 unfolding step
 step-opening w f room = by-opening w (accepted w f room)
 
-ends-same : (a b : Book) → a .year ≡ b .year → a .month ≡ b .month → a .points ≡ b .points → a .suppliers ≡ b .suppliers → a .elements ≡ b .elements → endsOf a ≡ endsOf b
+-- so the parts end where they did
+ends-same : (a b : Book) → a .year ≡ b .year → a .month ≡ b .month → a .points ≡ b .points → a .suppliers ≡ b .suppliers
+    → a .elements ≡ b .elements → endsOf a ≡ endsOf b
 unfolding endsOf
 ends-same a b y m p s e = rw (y, m, p, s, e)
 
--- where the parts were found to end
-module _ (b : Book) (t : Lent) (e : Ends) (q : e ≡ endsOf b) where
-  pub parts-fit : Fitted b → EndsFit e
-  parts-fit f = rw q (ends-fit b f)
+pub ends-stay : (a b : Book) (o x : Lists) (f : Fields) (room : ℕ) → worldIn a x ≡ step (worldIn b o) f room → endsOf a ≡ endsOf b
+ends-stay a b o x f room e =
+    let h = ap (λ (w : World). w .opening) e ∙ step-opening (worldIn b o) f room in
+    ends-same a b (ap (λ (y : Opening). y .year) h) (ap (λ (y : Opening). y .month) h) (ap (λ (y : Opening). y .points) h)
+    (ap (λ (y : Opening). y .suppliers) h) (ap (λ (y : Opening). y .elements) h)
 
-  pub parts-within : Sized t → Fitted b → Within e t
-  parts-within s g =
-      let f = parts-fit g in
-      record { described = omega arith; priced = omega arith; readings = omega arith; blocks = omega arith; lines = omega arith; sent = omega arith }
-
-  -- a world whose tables are those parts
-  abbrev pub partsOf : Book → (links holders states readings blocks : List ℕ) (lines sent : List ℤ) → World
-  partsOf a links holders states readings blocks lines sent = worldOf a (take (e .described) (t .elementData)) (take (e .priced) (t .prices)) links holders states readings blocks lines sent
-
-  -- as they are lent on
-  pub parts-are : worldIn b t ≡ partsOf b (t .links) (t .holders) (t .states) (take (e .readings) (t .readings)) (take (e .blocks) (t .blocks)) (take (e .lines) (t .lines)) (take (e .lines) (t .sent))
-  unfolding worldIn
-  parts-are = rw q
-
-  module _ (s : Sized t) (g : Fitted b) (a : Book) (links holders states rs bs : List ℕ) (ns ts : List ℤ)
-      (lr : length rs ≡ length (take (e .readings) (t .readings)))
-      (lb : length bs ≡ length (take (e .blocks) (t .blocks)))
-      (ll : length ns ≡ length (take (e .lines) (t .lines)))
-      (lt : length ts ≡ length (take (e .lines) (t .sent)))
-    where
-      -- the tables with the parts back in their places
-      abbrev pub after : Lent
-      after = lentOf (t .elementData) (t .prices) links holders states (rs ++ drop (e .readings) (t .readings)) (bs ++ drop (e .blocks) (t .blocks)) (ns ++ drop (e .lines) (t .lines)) (ts ++ drop (e .lines) (t .sent))
-
-      pub parts-back : endsOf a ≡ endsOf b → worldIn a after ≡ partsOf a links holders states rs bs ns ts
-      unfolding worldIn
-      parts-back z =
-          let v = parts-within s g in
-          rw (z, ← q, front-back (e .readings) (t .readings) rs lr (v .readings), front-back (e .blocks) (t .blocks) bs lb (v .blocks), front-back (e .lines) (t .lines) ns ll (v .lines), front-back (e .lines) (t .sent) ts lt (v .sent))
-
-      -- a message that was taken by the parts was taken by the tables
-      pub text-done : (f : Fields) (message : ℕ) (r : Printed) (out written : List ℕ) (from : ℕ)
-          → Texted (partsOf b (t .links) (t .holders) (t .states) (take (e .readings) (t .readings)) (take (e .blocks) (t .blocks)) (take (e .lines) (t .lines)) (take (e .lines) (t .sent))) (partsOf a links holders states rs bs ns ts) f message r out written from
-          × Whole (partsOf a links holders states rs bs ns ts)
-          → Texted (worldIn b t) (worldIn a after) f message r out written from × Whole (worldIn a after)
-      text-done f message r out written from p =
-          let o = ap (λ (x : World). x .opening) (p .0 .reply .world) ∙ step-opening _ f recordPlaces in
-          let z = parts-back (ends-same a b (ap (λ (x : Opening). x .year) o) (ap (λ (x : Opening). x .month) o) (ap (λ (x : Opening). x .points) o) (ap (λ (x : Opening). x .suppliers) o) (ap (λ (x : Opening). x .elements) o)) in
-          rw (parts-are, z) p
+pub points-stay : (a b : Book) (o x : Lists) (f : Fields) (room : ℕ) → worldIn a x ≡ step (worldIn b o) f room → a .points ≡ b .points
+points-stay a b o x f room e = ap (λ (w : World). w .opening .points) e ∙ ap (λ (y : Opening). y .points) (step-opening (worldIn b o) f room)

@@ -1,5 +1,5 @@
 -- A run, turn by turn: what was printed and what is still to be printed stay what was to be printed at first, and each turn takes bytes
--- away, opens the book or is the last. Assumes nothing.
+-- away, opens the book or is the last.
 use Prim.Native.Nat.{ℕ, suc, _+_, _-_, _*_, _≤_, _<_}
 use native.Mathlib.Omega.{arith}
 use mathlib.Core.Path.{_≡_, refl, sym, ap, _∙_}
@@ -20,8 +20,10 @@ use Rattle.file.proofs.FieldLaws.{whole-rest, front-decides, Undecided, inside-
 use Rattle.runner.specs.declared.Progress.{Progress}
 use Rattle.runner.specs.declared.Advanced.{Advanced}
 use Rattle.runner.specs.Stages.{Stage, start, elements, messages, over, phaseOf, printed, Move, broken, openedTo, opening, moveOn, foundAt, isMore}
-use Rattle.runner.specs.Parts.{Lent, Sized}
-use Rattle.runner.specs.Holding.{Represents, Stands, longestText, lastNumber, Advances, canGoOn, Reached, Stopped}
+use Rattle.rules.specs.Lent.{Lists}
+use Rattle.runner.specs.Parts.{Sized}
+use Rattle.runner.specs.Texts.{longestText, lastNumber}
+use Rattle.runner.specs.Holding.{Represents, Stands, Advances, canGoOn, Reached, Stopped}
 use Rattle.runner.proofs.StageLaws.{never, move-from, next-inside, pieces}
 use Rattle.runner.proofs.ArmLaws.{wait-move}
 use Rattle.runner.proofs.ValueLaws.{placed-front}
@@ -89,7 +91,7 @@ weightOf (elements h values) left = suc (2 * left + 1)
 weightOf (messages w n) left = suc (2 * left + 0)
 weightOf over left = 0
 
-holds-weight : (p : Progress) (t : Lent) (stage : Stage) (left : ℕ) → Represents p t stage → weight false p left ≡ weightOf stage left
+holds-weight : (p : Progress) (t : Lists) (stage : Stage) (left : ℕ) → Represents p t stage → weight false p left ≡ weightOf stage left
 unfolding weight weightOf rank
 holds-weight p t start left h = rw (h .0, h .1)
 holds-weight p t (elements g values) left h = rw (h .0, h .1)
@@ -133,7 +135,7 @@ falls at end over f s l m k = absurd (omega arith)
 
 -- ---- a turn
 
-holds-phase : (p : Progress) (t : Lent) (stage : Stage) → p .over ≡ false → Represents p t stage → p .phase ≡ phaseOf stage
+holds-phase : (p : Progress) (t : Lists) (stage : Stage) → p .over ≡ false → Represents p t stage → p .phase ≡ phaseOf stage
 unfolding phaseOf
 holds-phase p t start o h = h .1
 holds-phase p t (elements g values) o h = h .1
@@ -141,7 +143,7 @@ holds-phase p t (messages w n) o h = h .1
 holds-phase p t over o h = never (sym h ∙ o)
 
 -- the run so far
-pub record Running (ended : Bool) (s : List ℕ) (at : ℕ) (p₀ : Progress) (t₀ : Lent) (room : ℕ) (t : Lent) (out : List ℕ) (p : Progress) (place written : ℕ) (waits : Bool) : Type 0 where
+pub record Running (ended : Bool) (s : List ℕ) (at : ℕ) (p₀ : Progress) (t₀ : Lists) (room : ℕ) (t : Lists) (out : List ℕ) (p : Progress) (place written : ℕ) (waits : Bool) : Type 0 where
   pub inside : place ≤ length s
   pub long : length out ≡ room
   pub text : written ≤ room
@@ -149,7 +151,7 @@ pub record Running (ended : Bool) (s : List ℕ) (at : ℕ) (p₀ : Progress) (t
   pub few : waits ≡ true → (ended ≡ false) × (length s - place < 198)
   pub reached : (stage : Stage) → Represents p₀ t₀ stage → Reached ended stage (drop at s) (take written out) p t (drop place s)
 
-pub begins : (ended : Bool) (s : List ℕ) (at : ℕ) (p : Progress) (t : Lent) (out : List ℕ) → at ≤ length s → Sized t → Running ended s at p t (length out) t out p at 0 false
+pub begins : (ended : Bool) (s : List ℕ) (at : ℕ) (p : Progress) (t : Lists) (out : List ℕ) → at ≤ length s → Sized t → Running ended s at p t (length out) t out p at 0 false
 begins ended s at p t out l z =
     record {
       inside = l;
@@ -160,7 +162,7 @@ begins ended s at p t out l z =
       reached = λ stage h. record { stage = stage; holds = h; same = λ rest e. refl };
     }
 
-module _ (ended : Bool) (s : List ℕ) (at : ℕ) (p₀ : Progress) (t₀ : Lent) (room : ℕ) (t : Lent) (out : List ℕ) (p : Progress) (place written : ℕ) (waits : Bool)
+module _ (ended : Bool) (s : List ℕ) (at : ℕ) (p₀ : Progress) (t₀ : Lists) (room : ℕ) (t : Lists) (out : List ℕ) (p : Progress) (place written : ℕ) (waits : Bool)
     (u : Running ended s at p₀ t₀ room t out p place written waits) (b : Stands p₀ t₀)
   where
     -- the numbers and the tables stand for a stage
@@ -170,7 +172,7 @@ module _ (ended : Bool) (s : List ℕ) (at : ℕ) (p₀ : Progress) (t₀ : Lent
     abbrev found : Found
     found = foundAt s place (p .phase) ended
 
-    module _ (g : GoesOn p waits (length out - written)) (t′ : Lent) (after : List ℕ) (a : Advanced)
+    module _ (g : GoesOn p waits (length out - written)) (t′ : Lists) (after : List ℕ) (a : Advanced)
         (f : (stage : Stage) → Represents p t stage → Advances (moveOn place stage found s) (a .progress) t′ out after (a .next) written (a .written))
         (m : a .more ≡ isMore found)
       where
@@ -224,13 +226,13 @@ module _ (ended : Bool) (s : List ℕ) (at : ℕ) (p₀ : Progress) (t₀ : Lent
 
 -- ---- the end
 
-pub ends : (ended : Bool) (s : List ℕ) (at : ℕ) (p₀ : Progress) (t₀ : Lent) (room : ℕ) (t : Lent) (out : List ℕ) (p : Progress) (place written : ℕ) (waits : Bool)
+pub ends : (ended : Bool) (s : List ℕ) (at : ℕ) (p₀ : Progress) (t₀ : Lists) (room : ℕ) (t : Lists) (out : List ℕ) (p : Progress) (place written : ℕ) (waits : Bool)
     → Running ended s at p₀ t₀ room t out p place written waits → canGoOn p waits (length out - written) ≡ false → Stopped s ended out (record { progress = p; next = place; written = written; waits = waits })
 ends ended s at p₀ t₀ room t out p place written waits u g = record { place = u .inside; text = omega (arith, u .long, u .text); waits = u .few; stops = g }
 
 -- ---- for callers
 
-over-silent : (p : Progress) (t : Lent) (stage : Stage) (bytes : List ℕ) → Represents p t stage → p .over ≡ true → printed stage bytes ≡ []
+over-silent : (p : Progress) (t : Lists) (stage : Stage) (bytes : List ℕ) → Represents p t stage → p .over ≡ true → printed stage bytes ≡ []
 unfolding printed
 over-silent p t start bytes h o = never (sym o ∙ h .0)
 over-silent p t (elements g values) bytes h o = never (sym o ∙ h .0)
@@ -238,17 +240,17 @@ over-silent p t (messages w n) bytes h o = never (sym o ∙ h .0)
 over-silent p t over bytes h o = refl
 
 -- a run that is over has printed all
-pub run-over : (ended : Bool) (stage : Stage) (front text : List ℕ) (p : Progress) (t : Lent) (left : List ℕ) → Reached ended stage front text p t left → p .over ≡ true
+pub run-over : (ended : Bool) (stage : Stage) (front text : List ℕ) (p : Progress) (t : Lists) (left : List ℕ) → Reached ended stage front text p t left → p .over ≡ true
     → (rest : List ℕ) → (ended ≡ true → rest ≡ []) → printed stage (front ++ rest) ≡ text
 run-over ended stage front text p t left r o rest e = r .same rest e ∙ rw (over-silent p t (r .stage) (left ++ rest) (r .holds) o) (append-nil text)
 
 -- the whole input from the beginning, over in one call: the text is the program's
-pub whole-run : (s text : List ℕ) (p : Progress) (t : Lent) (left : List ℕ) → Reached true start s text p t left → p .over ≡ true → text ≡ settled s
+pub whole-run : (s text : List ℕ) (p : Progress) (t : Lists) (left : List ℕ) → Reached true start s text p t left → p .over ≡ true → text ≡ settled s
 unfolding printed
 whole-run s text p t left r o = sym (run-over true start s text p t left r o [] (λ e. refl)) ∙ ap settled (append-nil s)
 
 -- a run that goes on over the bytes that were left, with more behind them
-pub runs-joined : (ended : Bool) (stage : Stage) (front more text text′ : List ℕ) (p p′ : Progress) (t t′ : Lent) (left left′ : List ℕ) → (r : Reached false stage front text p t left)
+pub runs-joined : (ended : Bool) (stage : Stage) (front more text text′ : List ℕ) (p p′ : Progress) (t t′ : Lists) (left left′ : List ℕ) → (r : Reached false stage front text p t left)
     → Reached ended (r .stage) (left ++ more) text′ p′ t′ left′ → Reached ended stage (front ++ more) (text ++ text′) p′ t′ left′
 runs-joined ended stage front more text text′ p p′ t t′ left left′ r q =
     record {
@@ -259,7 +261,7 @@ runs-joined ended stage front more text text′ p p′ t t′ left left′ r q =
     }
 
 -- or over the same bytes, where the output was full
-pub runs-follow : (ended : Bool) (stage : Stage) (front text text′ : List ℕ) (p p′ : Progress) (t t′ : Lent) (left left′ : List ℕ) → (r : Reached ended stage front text p t left)
+pub runs-follow : (ended : Bool) (stage : Stage) (front text text′ : List ℕ) (p p′ : Progress) (t t′ : Lists) (left left′ : List ℕ) → (r : Reached ended stage front text p t left)
     → Reached ended (r .stage) left text′ p′ t′ left′ → Reached ended stage front (text ++ text′) p′ t′ left′
 runs-follow ended stage front text text′ p p′ t t′ left left′ r q =
     record {

@@ -1,5 +1,5 @@
 -- One field at a time: the text that it prints and what is printed behind it are what is printed from it on. Of a whole input, and of the
--- bytes in hand, whatever follows them. By cases on the stage and the field. Assumes nothing.
+-- bytes in hand, whatever follows them. By cases on the stage and the field.
 use Prim.Native.Nat.{ℕ, suc, _+_, _≤_, _<_}
 use mathlib.Core.Path.{_≡_, refl, sym, ap, _∙_}
 use mathlib.Core.Logic.{_⊎_, ⊎-elim}

@@ -1,35 +1,100 @@
--- What a message leaves and prints, from the promise of the entry point that prints its records. Assumes nothing.
-use Prim.Native.Nat.{ℕ, _+_}
+-- What a message leaves and prints, from what the message itself promises: the lines of its records one behind the other, or its refusal.
+use Prim.Native.Nat.{ℕ, _+_, _*_, _/_, _≤_, _<_}
 use native.Mathlib.Numerals.{add-one}
-use mathlib.Core.Path.{_≡_, refl, ap, _∙_}
-use mathlib.Core.Bool.{false}
-use mathlib.Core.List.{List}
-use Rattle.rules.specs.declared.Book.{Book}
+use native.Mathlib.Omega.{arith}
+use mathlib.Core.Path.{_≡_, refl, sym, ap, subst, _∙_}
+use mathlib.Core.List.{List, [], _∷_, _++_, append-assoc, append-nil}
+use mathlib.Core.Option.{Option, none, some}
+use lib.Dec.{eqb}
+use lib.IntN.{ℤ}
+use lib.ListN.{length}
+use borrow.Author.Tests.{leb-true}
+use Rattle.rules.specs.declared.Body.{Body}
 use Rattle.rules.specs.declared.Fields.{Fields}
-use Rattle.rules.specs.World.{Opening, World}
-use Rattle.rules.specs.Whole.{Whole}
-use Rattle.file.specs.declared.fields.Phase.{Phase}
-use Rattle.file.specs.Program.{recordPlaces}
-use Rattle.listing.specs.declared.Printed.{Printed}
-use Rattle.listing.specs.Replies.{Texted}
-use Rattle.runner.specs.declared.Advanced.{Advanced}
-use Rattle.runner.specs.Parts.{Lent, worldIn}
-use Rattle.runner.specs.Holding.{advancedTo, TakesMessage}
-use Rattle.runner.proofs.PartLaws.{step-opening}
+use Rattle.rules.specs.declared.Record.{Record}
+use Rattle.rules.specs.Basics.{listTo}
+use Rattle.rules.specs.World.{World}
+use Rattle.rules.specs.Effects.{written, question17, question18, answer, accepted, writtenBy, recordsOf}
+use Rattle.rules.proofs.Passed.{asked-passed, behind, taken}
+use Rattle.ledger.specs.RecordNumbers.{recordAt, RecordPlaces, numbersAfter}
+use Rattle.ledger.proofs.RecordNumbers.{records-read, records-placed}
+use Rattle.settlement.specs.declared.Reply.{Reply}
+use Rattle.settlement.specs.Replies.{roomIn, Replied}
+use Rattle.file.specs.Lines.{recordLine, longestLine, Written}
+use Rattle.file.specs.Program.{recordPlaces, recordLines, answered}
+use Rattle.file.proofs.PlacedLaws.{placed-none, joined, loosened}
+use Rattle.runner.specs.Texts.{replyText}
 
-pub message-taken : (b : Book) (t t′ : Lent) (f : Fields) (number next : ℕ) (p : Printed) (r : Advanced) (out after : List ℕ) (from : ℕ)
-    → Texted (worldIn b t) (worldIn (p .reply .book) t′) f number p out after from × Whole (worldIn (p .reply .book) t′)
-    → r ≡ advancedTo Phase.Messages false (p .reply .book) (number + 1) next (p .written)
-    → TakesMessage (worldIn b t) f number next r t′ out after from × (r .more ≡ false)
-unfolding worldIn
-message-taken b t t′ f number next p r out after from q e =
-    rw (e, add-one number) (
-      record {
-        world = q .0 .reply .world;
-        whole = q .1;
-        points = ap (λ (x : World). x .opening .points) (q .0 .reply .world) ∙ ap (λ (x : Opening). x .points) (step-opening (worldIn b t) f recordPlaces);
-        text = q .0 .text;
-        made = refl;
-      },
-      refl,
-    )
+-- nothing
+pub nothing-written : (most : ℕ) (out : List ℕ) (from : ℕ) → Written most out out from from []
+nothing-written most out from = record { is = placed-none out from; end = omega arith; short = omega arith }
+
+-- ---- the lines of the first records
+
+lines-more : (rs : List Record) (r : Record) → recordLines (rs ++ (r ∷ [])) ≡ recordLines rs ++ recordLine r
+unfolding recordLines
+lines-more [] r = append-nil (recordLine r)
+lines-more (x ∷ rs) r =
+    ap (λ (t : List ℕ). recordLine x ++ t) (lines-more rs r) ∙ sym (append-assoc (recordLine x) (recordLines rs) (recordLine r))
+
+module _ (numbers : List ℤ) where
+  pub no-lines : (out : List ℕ) (from : ℕ) → Written (0 * longestLine) out out from from (recordLines (listTo (recordAt numbers) 0))
+  unfolding recordLines listTo
+  no-lines out from = nothing-written 0 out from
+
+  pub line-more : (i : ℕ) (a b c : List ℕ) (from at next : ℕ) → Written (i * longestLine) a b from at (recordLines (listTo (recordAt numbers) i))
+      → (r : Record) → r ≡ recordAt numbers i → Written longestLine b c at next (recordLine r) → from + i * longestLine ≤ length a
+      → Written ((i + 1) * longestLine) a c from next (recordLines (listTo (recordAt numbers) (i + 1)))
+  unfolding listTo
+  line-more i a b c from at next v r e w room =
+      rw (add-one i, lines-more (listTo (recordAt numbers) i) (recordAt numbers i)) (loosened (omega arith) (joined v (rw e at w) room))
+
+-- a line behind them has room
+pub line-fits : (i count from at l m : ℕ) (text : List ℕ) → at ≡ from + length text → length text ≤ i * longestLine → i < count
+    → from + count * longestLine ≤ l → m ≡ l → at + longestLine ≤ m
+line-fits i count from at l m text end short less room same = omega arith
+
+-- ---- the records of a message
+
+module _ (w : World) (f : Fields) (room : ℕ) where
+  written-fit : (x : Option Body) → accepted w f room ≡ x → length (writtenBy w x) ≤ room
+  unfolding writtenBy question18
+  written-fit none e = omega arith
+  written-fit (some b) e =
+      let t = taken w f room b e in
+      let k = behind w f room 0 (λ n i j l. omega arith) (t .answered) in
+      let q : some (k .message) ≡ some (t .message) = sym (k .is) ∙ t .is in
+      let m : k .message ≡ t .message = cc in
+      let z : k .message .body ≡ b = ap (λ x. x .body) m ∙ t .body in
+      let p = asked-passed (question17 w (k .message .body)) 17 _ 0 (λ n. omega arith) (k .rest) in
+      let r = asked-passed (question18 w (k .message .body) room) 18 _ 0 (λ n. omega arith) (p .1) in
+      subst (λ (x : Body). length (written w x) ≤ room) z (leb-true _ room (r .0))
+
+  pub records-fit : length (recordsOf w f room) ≤ room
+  unfolding recordsOf
+  records-fit = written-fit (accepted w f room) refl
+
+-- with a list for 1,024 records
+module _ (w after : World) (f : Fields) (r : Reply) (lent out : List ℤ) (long : length lent ≡ recordPlaces * 6) (p : Replied w after f r lent out) where
+  room-is : roomIn lent ≡ recordPlaces
+  room-is = omega arith
+
+  count-is : r .records ≡ length (recordsOf w f recordPlaces)
+  count-is = p .count ∙ ap (λ (n : ℕ). length (recordsOf w f n)) room-is
+
+  list-is : out ≡ numbersAfter (recordsOf w f recordPlaces) lent
+  list-is = p .list ∙ ap (λ (n : ℕ). numbersAfter (recordsOf w f n) lent) room-is
+
+  pub few-records : r .records ≤ recordPlaces
+  few-records = let h = records-fit w f recordPlaces in let e = count-is in omega arith
+
+  pub placed-records : (i : ℕ) → i < r .records → RecordPlaces out i
+  placed-records i l = rw list-is (records-placed (recordsOf w f recordPlaces) lent i (let e = count-is in omega arith))
+
+  read-records : listTo (recordAt out) (r .records) ≡ recordsOf w f recordPlaces
+  read-records = rw (count-is, list-is) (records-read (recordsOf w f recordPlaces) lent)
+
+  -- what is printed is the definition's text
+  pub reply-text : (message : ℕ) → replyText r message out ≡ answered w f message
+  unfolding replyText answered
+  reply-text message = rw (p .number, room-is, read-records)

@@ -1,4 +1,4 @@
--- An element's value put into the tables behind those before it: the tables' fronts are the values' bytes and prices. Assumes nothing.
+-- An element's value put into the tables behind those before it: the tables' fronts are the values' bytes and prices.
 use Prim.Native.Nat.{ℕ, _+_, _*_, _≤_, _<_, min}
 use native.Mathlib.Omega.{arith}
 use mathlib.Core.Path.{_≡_, sym, ap, _∙_}
@@ -8,7 +8,7 @@ use lib.ListN.{length, take, drop, length-append}
 use lib.Seq.{length-take-le, take-at}
 use Rattle.rules.specs.declared.Book.{Book}
 use Rattle.rules.proofs.Ranges.{length-listTo}
-use Rattle.queries.specs.Promises.{freshBook}
+use Rattle.recording.specs.Opened.{freshBook}
 use Rattle.file.specs.Bytes.{placed}
 use Rattle.file.specs.Element.{priceAt, pricesOf, elementBytes, elementPrices}
 use Rattle.file.specs.Program.{Heading, describedAll, pricesAll}

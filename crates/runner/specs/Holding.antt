@@ -7,71 +7,52 @@ use lib.IntN.{ℤ}
 use lib.ListN.{length, take}
 use lib.Dec.{leb, ltb}
 use Rattle.rules.specs.declared.Book.{Book}
-use Rattle.rules.specs.declared.Fields.{Fields}
-use Rattle.rules.specs.World.{Opening, World}
-use Rattle.rules.specs.Opening.{opened}
-use Rattle.rules.specs.Effects.{step}
+use Rattle.rules.specs.Sizes.{elementSize, mostElements, pricePlaces}
+use Rattle.rules.specs.World.{World}
+use Rattle.rules.specs.Lent.{Lists}
 use Rattle.rules.specs.Whole.{Whole}
-use Rattle.queries.specs.Promises.{freshBook}
+use Rattle.recording.specs.Opened.{freshBook}
 use Rattle.file.specs.declared.fields.Phase.{Phase}
 use Rattle.file.specs.Lines.{Written}
-use Rattle.file.specs.Program.{recordPlaces, answered, Heading, describedAll, pricesAll, lent, settleAnswer}
+use Rattle.file.specs.Program.{Heading, describedAll, pricesAll, settlePoints}
 use Rattle.runner.specs.declared.Progress.{Progress}
 use Rattle.runner.specs.declared.Advanced.{Advanced}
 use Rattle.runner.specs.declared.Ran.{Ran}
 use Rattle.runner.specs.Stages.{Stage, start, elements, messages, over, printed, Move}
-use Rattle.runner.specs.Parts.{Lent, worldIn, anew}
+use Rattle.runner.specs.Parts.{frontsWorld}
+use Rattle.runner.specs.Texts.{longestText, lastNumber}
 
 -- the month, the values of the elements so far, and their count, which stops at 65: more than 64 are question 2 whatever they are
 pub record HoldsValues (b : Book) (elementData : List ℕ) (prices : List ℤ) (h : Heading) (values : List (List ℕ)) : Type 0 where
-  pub book : b ≡ freshBook (h .year) (h .month) (h .points) (h .suppliers) (min 65 (length values))
-  pub described : length values ≤ 64 → take (length values * 3) elementData ≡ describedAll values
-  pub priced : length values ≤ 64 → take (length values * 24) prices ≡ pricesAll values
+  pub book : b ≡ freshBook (h .year) (h .month) (h .points) (h .suppliers) (min (mostElements + 1) (length values))
+  pub described : length values ≤ mostElements → take (length values * elementSize) elementData ≡ describedAll values
+  pub priced : length values ≤ mostElements → take (length values * pricePlaces) prices ≡ pricesAll values
 
 -- an open book
-pub record HoldsBook (b : Book) (t : Lent) (w : World) : Type 0 where
-  pub world : w ≡ worldIn b t
+pub record HoldsBook (b : Book) (t : Lists) (w : World) : Type 0 where
+  pub world : w ≡ frontsWorld b t
   pub whole : Whole w
-  pub points : b .points ≤ 16
+  pub points : b .points ≤ settlePoints
 
 -- the numbers and the tables stand for the stage
-abbrev pub Represents : Progress → Lent → Stage → Type 0
+abbrev pub Represents : Progress → Lists → Stage → Type 0
 Represents p t start = (p .over ≡ false) × (p .phase ≡ Phase.Start)
-Represents p t (elements h values) = (p .over ≡ false) × (p .phase ≡ Phase.Elements) × HoldsValues (p .book) (t .elementData) (t .prices) h values
-Represents p t (messages w number) = (p .over ≡ false) × (p .phase ≡ Phase.Messages) × HoldsBook (p .book) t w × (p .number ≡ number)
+Represents p t (elements h values) =
+    (p .over ≡ false) × (p .phase ≡ Phase.Elements) × HoldsValues (p .book) (t .elementData) (t .prices) h values
+Represents p t (messages w number) =
+    (p .over ≡ false) × (p .phase ≡ Phase.Messages) × HoldsBook (p .book) t w × (p .number ≡ number)
 Represents p t over = p .over ≡ true
 
 -- they stand for some stage
-pub record Stands (p : Progress) (t : Lent) : Type 0 where
+pub record Stands (p : Progress) (t : Lists) : Type 0 where
   pub stage : Stage
   pub holds : Represents p t stage
 
--- no field prints more than 1,024 lines
-abbrev pub longestText : ℕ
-longestText = 138240
-
--- no message has a greater number
-abbrev pub lastNumber : ℕ
-lastNumber = 18446744073709551615
-
 -- what is promised of one field: its text at a place of the output, the stage behind it and the place from which the run goes on
-pub record Advances (m : Move) (p : Progress) (t : Lent) (out after : List ℕ) (next from written : ℕ) : Type 0 where
+pub record Advances (m : Move) (p : Progress) (t : Lists) (out after : List ℕ) (next from written : ℕ) : Type 0 where
   pub holds : Represents p t (m .stage)
   pub text : Written longestText out after from written (m .text)
   pub place : next ≡ m .next
-
-abbrev pub advancedTo : Phase → Bool → Book → (number next written : ℕ) → Advanced
-advancedTo phase ended b number next written = record { progress = record { phase = phase; over = ended; book = b; number = number }; next = next; written = written; more = false }
-
-abbrev pub waitsAt : Progress → (at from : ℕ) → Advanced
-waitsAt p at from = record { progress = p; next = at; written = from; more = true }
-
--- ---- an opening
-
--- questions 2 to 4 of an opening, and the tables as a book that opens finds them
-pub record OpensTables (b : Book) (o : Opening) (after : Lent) (question : ℕ) : Type 0 where
-  pub answer : question ≡ settleAnswer o
-  pub world : settleAnswer o ≡ 0 → worldIn (anew b) after ≡ opened (lent o)
 
 -- one element field more
 abbrev pub counted : Book → Book
@@ -81,22 +62,12 @@ counted b =
       month = b .month;
       points = b .points;
       suppliers = b .suppliers;
-      elements = min 65 (b .elements + 1);
+      elements = min (mostElements + 1) (b .elements + 1);
       periods = b .periods;
       holders = b .holders;
       states = b .states;
       round = b .round;
     }
-
--- ---- a message
-
--- the book, the tables and the text after a message
-pub record TakesMessage (w : World) (f : Fields) (number next : ℕ) (r : Advanced) (t : Lent) (out after : List ℕ) (from : ℕ) : Type 0 where
-  pub world : worldIn (r .progress .book) t ≡ step w f recordPlaces
-  pub whole : Whole (worldIn (r .progress .book) t)
-  pub points : r .progress .book .points ≡ w .opening .points
-  pub text : Written longestText out after from (r .written) (answered w f number)
-  pub made : r ≡ advancedTo Phase.Messages false (r .progress .book) (suc number) next (r .written)
 
 -- ---- a run
 
@@ -106,7 +77,7 @@ canGoOn p waits left = not waits && (not (p .over) && (ltb (p .number) lastNumbe
 
 -- from a stage and the bytes behind it the run has come to another: what is printed from the first on is the text, and what is printed from
 -- the second on, whatever follows the bytes in hand
-pub record Reached (ended : Bool) (from : Stage) (front text : List ℕ) (p : Progress) (t : Lent) (left : List ℕ) : Type 0 where
+pub record Reached (ended : Bool) (from : Stage) (front text : List ℕ) (p : Progress) (t : Lists) (left : List ℕ) : Type 0 where
   pub stage : Stage
   pub holds : Represents p t stage
   pub same : (rest : List ℕ) → (ended ≡ true → rest ≡ []) → printed from (front ++ rest) ≡ text ++ printed stage (left ++ rest)

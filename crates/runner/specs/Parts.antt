@@ -1,85 +1,82 @@
 -- The tables at the program's own sizes, and the parts of them that a book uses: its own tables are their fronts.
 use Prim.Native.Nat.{ℕ, _*_, _≤_}
 use mathlib.Core.Path.{_≡_}
-use mathlib.Core.Bool.{Bool, _&&_}
-use mathlib.Core.List.{List}
-use lib.IntN.{ℤ}
 use lib.ListN.{length, take}
-use lib.Dec.{leb}
 use Rattle.calendar.specs.Gregorian.{daysOfMonth, InRange}
 use Rattle.rules.specs.declared.Book.{Book}
-use Rattle.rules.specs.Basics.{within}
-use Rattle.rules.specs.World.{Opening, World, worldOf}
-use Rattle.queries.specs.Promises.{freshBook}
-use Rattle.runner.specs.declared.Ends.{Ends}
+use Rattle.rules.specs.Basics.{allTo}
+use Rattle.rules.specs.Sizes.{elementSize, hourPlaces, lineSize, mostElements, mostLines, mostSuppliers, places, pricePlaces}
+use Rattle.rules.specs.World.{Opening, World}
+use Rattle.rules.specs.WellFormed.{elementRight}
+use Rattle.rules.specs.Effects.{ask}
+use Rattle.rules.specs.Lent.{Lists, worldIn}
+use Rattle.recording.specs.Opened.{freshBook}
+use Rattle.file.specs.Program.{settlePoints}
+use Rattle.runner.specs.declared.parts.Ends.{Ends}
 
--- what is lent, in the order in which it is lent
-pub record Lent : Type 0 where
-  pub elementData : List ℕ
-  pub prices : List ℤ
-  pub links : List ℕ
-  pub holders : List ℕ
-  pub states : List ℕ
-  pub readings : List ℕ
-  pub blocks : List ℕ
-  pub lines : List ℤ
-  pub sent : List ℤ
-
-abbrev pub lentOf : (elementData : List ℕ) (prices : List ℤ) (links holders states readings blocks : List ℕ) (lines sent : List ℤ) → Lent
-lentOf elementData prices links holders states readings blocks lines sent =
-    record {
-      elementData = elementData;
-      prices = prices;
-      links = links;
-      holders = holders;
-      states = states;
-      readings = readings;
-      blocks = blocks;
-      lines = lines;
-      sent = sent;
-    }
+-- no month is longer
+abbrev pub longestMonth : ℕ
+longestMonth = 31
 
 -- 64 elements, 16 suppliers, and 16 points of 31 days of 24 hours
-pub record Sized (t : Lent) : Type 0 where
-  pub elementData : length (t .elementData) ≡ 192
-  pub prices : length (t .prices) ≡ 1536
-  pub links : length (t .links) ≡ 1024
-  pub holders : length (t .holders) ≡ 1024
-  pub states : length (t .states) ≡ 1024
-  pub readings : length (t .readings) ≡ 11904
-  pub blocks : length (t .blocks) ≡ 16
-  pub lines : length (t .lines) ≡ 3072
-  pub sent : length (t .sent) ≡ 3072
+pub record Sized (t : Lists) : Type 0 where
+  pub elementData : length (t .elementData) ≡ mostElements * elementSize
+  pub prices : length (t .prices) ≡ mostElements * pricePlaces
+  pub links : length (t .links) ≡ places
+  pub holders : length (t .holders) ≡ places
+  pub states : length (t .states) ≡ places
+  pub readings : length (t .readings) ≡ settlePoints * longestMonth * hourPlaces
+  pub blocks : length (t .blocks) ≡ settlePoints
+  pub lines : length (t .lines) ≡ mostLines * lineSize
+  pub sent : length (t .sent) ≡ mostLines * lineSize
 
 -- a month of the calendar, and counts that the tables have room for
 pub record Fitted (b : Book) : Type 0 where
   pub month : InRange (b .year) (b .month)
-  pub points : b .points ≤ 16
-  pub suppliers : b .suppliers ≤ 16
-  pub elements : b .elements ≤ 64
-
-unfoldable pub isFitted : Book → Bool
-isFitted b = within 2000 2099 (b .year) && (within 1 12 (b .month) && (leb (b .points) 16 && (leb (b .suppliers) 16 && leb (b .elements) 64)))
+  pub points : b .points ≤ settlePoints
+  pub suppliers : b .suppliers ≤ mostSuppliers
+  pub elements : b .elements ≤ mostElements
 
 -- where the parts of a book end
 unfoldable pub endsOf : Book → Ends
 endsOf b =
     record {
-      described = b .elements * 3;
-      priced = b .elements * 24;
-      readings = b .points * daysOfMonth (b .year) (b .month) * 24;
+      described = b .elements * elementSize;
+      priced = b .elements * pricePlaces;
+      readings = b .points * daysOfMonth (b .year) (b .month) * hourPlaces;
       blocks = b .points;
-      lines = b .suppliers * b .elements * 3;
+      lines = b .suppliers * b .elements * lineSize;
     }
 
--- the world of a book whose tables are the fronts of what is lent
-unfoldable pub worldIn : Book → Lent → World
-worldIn b t =
-    worldOf b (take (endsOf b .described) (t .elementData)) (take (endsOf b .priced) (t .prices)) (t .links) (t .holders) (t .states)
-    (take (endsOf b .readings) (t .readings)) (take (endsOf b .blocks) (t .blocks)) (take (endsOf b .lines) (t .lines)) (take (endsOf b .lines) (t .sent))
+-- the tables up to those ends
+abbrev pub cutTo : Ends → Lists → Lists
+cutTo e t =
+    record {
+      elementData = take (e .described) (t .elementData);
+      prices = take (e .priced) (t .prices);
+      links = t .links;
+      holders = t .holders;
+      states = t .states;
+      readings = take (e .readings) (t .readings);
+      blocks = take (e .blocks) (t .blocks);
+      lines = take (e .lines) (t .lines);
+      sent = take (e .lines) (t .sent);
+    }
 
-abbrev pub openingIn : Book → Lent → Opening
-openingIn b t = worldIn b t .opening
+-- the parts that a book uses, as its own tables
+abbrev pub fronts : Book → Lists → Lists
+fronts b t = cutTo (endsOf b) t
+
+-- the world of a book whose tables they are
+abbrev pub frontsWorld : Book → Lists → World
+frontsWorld b t = worldIn b (fronts b t)
+
+abbrev pub frontsOpening : Book → Lists → Opening
+frontsOpening b t = frontsWorld b t .opening
+
+-- question 4
+abbrev pub elementsAnswer : Opening → ℕ
+elementsAnswer o = ask (allTo (elementRight o) (o .elements)) 4 0
 
 -- the same month and counts, with no row in use
 abbrev pub anew : Book → Book

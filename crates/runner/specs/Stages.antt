@@ -60,11 +60,15 @@ openedTo true w = over
 
 -- "The book opens, printing its line": the run goes on from the same place with a stage that the opened world gives
 unfoldable pub opening : ℕ → Opening → (World → Stage) → Move
-opening at o more = cond (eqb (settleAnswer o) 0) (record { text = lineOf o; stage = more (opened (lent o)); next = at }) (broken at (settleAnswer o))
+opening at o more =
+    cond (eqb (settleAnswer o) 0)
+    (record { text = lineOf o; stage = more (opened (lent o)); next = at })
+    (broken at (settleAnswer o))
 
 -- a field that was found from a place of the bytes on; where the bytes in hand end within it, nothing yet
 unfoldable pub moveOn : (at : ℕ) → Stage → Found → List ℕ → Move
-moveOn at start (Month year month points suppliers next) bytes = quiet (elements (record { year = year; month = month; points = points; suppliers = suppliers }) []) next
+moveOn at start (Month year month points suppliers next) bytes =
+    quiet (elements (record { year = year; month = month; points = points; suppliers = suppliers }) []) next
 moveOn at start (Element from size next) bytes = broken at 1
 moveOn at start (Message f next) bytes = broken at 1
 moveOn at start End bytes = broken at 1
@@ -78,7 +82,8 @@ moveOn at (elements h values) More bytes = quiet (elements h values) at
 moveOn at (elements h values) Broken bytes = broken at 1
 moveOn at (messages w number) (Month year month points suppliers next) bytes = broken at 1
 moveOn at (messages w number) (Element from size next) bytes = broken at 1
-moveOn at (messages w number) (Message f next) bytes = record { text = answered w f number; stage = messages (step w f recordPlaces) (suc number); next = next }
+moveOn at (messages w number) (Message f next) bytes =
+    record { text = answered w f number; stage = messages (step w f recordPlaces) (suc number); next = next }
 moveOn at (messages w number) End bytes = quiet over at
 moveOn at (messages w number) More bytes = quiet (messages w number) at
 moveOn at (messages w number) Broken bytes = broken at 1
@@ -105,12 +110,3 @@ isEnd (Message f next) = false
 isEnd End = true
 isEnd More = false
 isEnd Broken = false
-
--- "The book opens .. at the first whole message field or the end"
-unfoldable pub opensBook : Found → Bool
-opensBook (Month year month points suppliers next) = false
-opensBook (Element from size next) = false
-opensBook (Message f next) = true
-opensBook End = true
-opensBook More = false
-opensBook Broken = false
