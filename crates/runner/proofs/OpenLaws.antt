@@ -33,7 +33,7 @@ use Rattle.runner.specs.Stages.{Stage, broken, lineOf, openedTo, opening
 use Rattle.runner.specs.Parts.{Sized, Fitted, endsOf, fronts, frontsWorld, frontsOpening, elementsAnswer, anew}
 use Rattle.runner.specs.Texts.{advancedTo, openedOver, openingText}
 use Rattle.runner.specs.Holding.{HoldsValues, HoldsBook, Represents, Advances}
-use Rattle.runner.proofs.PartLaws.{Within, within, limited-fitted}
+use Rattle.runner.proofs.PartLaws.{within, limited-fitted}
 
 -- ---- question 2
 

@@ -2,10 +2,11 @@
 use Prim.Native.Nat.{ℕ, _*_, _≤_}
 use native.Mathlib.Nat.{mul-le-mul}
 use native.Mathlib.Omega.{arith}
-use mathlib.Core.Path.{_≡_, refl, ap, _∙_}
-use mathlib.Core.Bool.{true}
+use mathlib.Core.Path.{_≡_, refl, sym, ap, _∙_}
+use mathlib.Core.Bool.{Bool, true, cond}
 use mathlib.Core.List.{List, _++_}
 use mathlib.Core.Option.{Option, none, some}
+use lib.IntN.{ℤ}
 use lib.ListN.{length, take, drop}
 use lib.Seq.{length-take-le, take-at}
 use Rattle.calendar.specs.Gregorian.{daysOfMonth}
@@ -13,14 +14,16 @@ use Rattle.calendar.proofs.MonthLaws.{days-range}
 use Rattle.rules.specs.declared.Book.{Book}
 use Rattle.rules.specs.declared.Body.{Body}
 use Rattle.rules.specs.declared.Fields.{Fields}
-use Rattle.rules.specs.World.{Opening, World}
-use Rattle.rules.specs.WellFormed.{withinLimits}
-use Rattle.rules.specs.Effects.{posted, accepted, stepBy, step}
-use Rattle.rules.specs.Lent.{Lists, worldIn, openingIn, lendElements}
+use Rattle.rules.specs.Basics.{allTo}
+use Rattle.rules.specs.World.{Opening, World, openingOf}
+use Rattle.rules.specs.WellFormed.{withinLimits, elementRight}
+use Rattle.rules.specs.Effects.{ask, posted, accepted, stepBy, step}
+use Rattle.rules.specs.Lent.{Lists, worldIn, openingIn, lendElements, lendTables}
 use Rattle.rules.proofs.Parts.{limits, lengths}
 use Rattle.rules.specs.Whole.{Whole}
+use Rattle.recording.specs.Opened.{cleared}
 use Rattle.runner.specs.declared.parts.Ends.{Ends}
-use Rattle.runner.specs.Parts.{Sized, Fitted, endsOf, cutTo, fronts, frontsWorld}
+use Rattle.runner.specs.Parts.{Sized, Fitted, endsOf, cutTo, fronts, frontsWorld, frontsOpening, elementsAnswer}
 
 -- ---- the parts lie within the tables
 
@@ -31,9 +34,8 @@ pub record EndsFit (e : Ends) : Type 0 where
   pub blocks : e .blocks ≤ 16
   pub lines : e .lines ≤ 3072
 
+-- of the tables that messages write
 pub record Within (e : Ends) (t : Lists) : Type 0 where
-  pub described : e .described ≤ length (t .elementData)
-  pub priced : e .priced ≤ length (t .prices)
   pub readings : e .readings ≤ length (t .readings)
   pub blocks : e .blocks ≤ length (t .blocks)
   pub lines : e .lines ≤ length (t .lines)
@@ -54,8 +56,6 @@ pub within : (b : Book) → Fitted b → (e : Ends) → e ≡ endsOf b → (t : 
 within b g e q t s =
     let f = ends-fit b g e q in
     record {
-      described = omega (arith, f .described, s .elementData);
-      priced = omega (arith, f .priced, s .prices);
       readings = omega (arith, f .readings, s .readings);
       blocks = omega (arith, f .blocks, s .blocks);
       lines = omega (arith, f .lines, s .lines);
@@ -135,3 +135,24 @@ ends-stay a b o x f room e =
 
 pub points-stay : (a b : Book) (o x : Lists) (f : Fields) (room : ℕ) → worldIn a x ≡ step (worldIn b o) f room → a .points ≡ b .points
 points-stay a b o x f room e = ap (λ (w : World). w .opening .points) e ∙ ap (λ (y : Opening). y .points) (step-opening (worldIn b o) f room)
+
+-- ---- question 4 of the parts
+
+pub elements-asked : (b : Book) (t : Lists) (e : Ends) → e ≡ endsOf b → (r : Bool)
+    → allTo (elementRight (openingOf b (take (e .described) (t .elementData)) (take (e .priced) (t .prices)))) (b .elements) ≡ r
+    → cond r 0 4 ≡ elementsAnswer (frontsOpening b t)
+unfolding ask
+elements-asked b t e q r h =
+    ap (λ (x : Bool). cond x 0 4) (sym h)
+    ∙ ap (λ (y : Ends). cond (allTo (elementRight (openingOf b (take (y .described) (t .elementData)) (take (y .priced) (t .prices)))) (b .elements)) 0 4) q
+
+-- ---- parts that were cleared
+
+pub cleared-back : (b : Book) (t : Lists) (e : Ends) → e ≡ endsOf b → Within e t
+    → (links holders states readings blocks : List ℕ) (lines sent : List ℤ)
+    → AsLong e t (lendTables links holders states readings blocks lines sent (cutTo e t))
+    → lendTables links holders states readings blocks lines sent (cutTo e t) ≡ cleared (cutTo e t)
+    → fronts b (putBack e t (lendTables links holders states readings blocks lines sent (cutTo e t))) ≡ cleared (fronts b t)
+cleared-back b t e q v links holders states readings blocks lines sent l h =
+    let x = lendTables links holders states readings blocks lines sent (cutTo e t) in
+    ap (λ (y : Ends). cutTo y (putBack e t x)) (sym q) ∙ parts-back e t x v l ∙ h ∙ ap (λ (y : Ends). cleared (cutTo y t)) q

@@ -2,13 +2,17 @@
 use Prim.Native.Nat.{ℕ, _+_, _*_, _/_, _≤_, _<_}
 use native.Mathlib.Numerals.{add-one}
 use native.Mathlib.Omega.{arith}
-use mathlib.Core.Path.{_≡_, refl, sym, ap, subst, _∙_}
+use mathlib.Core.Path.{_≡_, refl, sym, ap, ap₂, subst, _∙_}
 use mathlib.Core.List.{List, [], _∷_, _++_, append-assoc, append-nil}
 use mathlib.Core.Option.{Option, none, some}
 use lib.Dec.{eqb}
 use lib.IntN.{ℤ}
 use lib.ListN.{length}
-use borrow.Author.Tests.{leb-true}
+use borrow.Author.Tests.{leb-true, ne-eqb}
+use mathlib.Core.Logic.{_≢_}
+use mathlib.Core.Bool.{Bool, true}
+use Rattle.calendar.specs.Gregorian.{daysOfMonth, firstDay}
+use Rattle.rules.specs.declared.Book.{Book}
 use Rattle.rules.specs.declared.Body.{Body}
 use Rattle.rules.specs.declared.Fields.{Fields}
 use Rattle.rules.specs.declared.Record.{Record}
@@ -20,10 +24,12 @@ use Rattle.ledger.specs.RecordNumbers.{recordAt, RecordPlaces, numbersAfter}
 use Rattle.ledger.proofs.RecordNumbers.{records-read, records-placed}
 use Rattle.settlement.specs.declared.Reply.{Reply}
 use Rattle.settlement.specs.Replies.{roomIn, Replied}
-use Rattle.file.specs.Lines.{recordLine, longestLine, Written}
+use Rattle.file.specs.declared.fields.Phase.{Phase}
+use Rattle.file.specs.Lines.{bookLine, recordLine, refusedLine, longestLine, Written}
 use Rattle.file.specs.Program.{recordPlaces, recordLines, answered}
 use Rattle.file.proofs.PlacedLaws.{placed-none, joined, loosened}
-use Rattle.runner.specs.Texts.{replyText}
+use Rattle.runner.specs.declared.Advanced.{Advanced}
+use Rattle.runner.specs.Texts.{advancedTo, openedOver, openingText, replyText}
 
 -- nothing
 pub nothing-written : (most : ℕ) (out : List ℕ) (from : ℕ) → Written most out out from from []
@@ -98,3 +104,29 @@ module _ (w after : World) (f : Fields) (r : Reply) (lent out : List ℤ) (long 
   pub reply-text : (message : ℕ) → replyText r message out ≡ answered w f message
   unfolding replyText answered
   reply-text message = rw (p .number, room-is, read-records)
+
+-- ---- an opening
+
+module _ (b : Book) (question : ℕ) where
+  pub line-put : question ≡ 0 → (days first : ℕ) → days ≡ daysOfMonth (b .year) (b .month) → first ≡ firstDay (b .year) (b .month)
+      → (out after : List ℕ) (from written : ℕ) (last : Bool) (at : ℕ) (r : Advanced)
+      → Written longestLine out after from written (bookLine (b .year) (b .month) days first)
+      → r ≡ advancedTo Phase.Messages last b 1 at written
+      → Written longestLine out after from (r .written) (openingText b question)
+      × (r ≡ advancedTo Phase.Messages (openedOver question last) b 1 at (r .written))
+  unfolding openingText
+  line-put z days first d f out after from written last at r w e =
+      let n : r .written ≡ written = ap (λ (x : Advanced). x .written) e in
+      let k : last ≡ openedOver question last = rw z in
+      (rw (n, z) (rw (d, f) at w), e ∙ ap₂ (λ (x : Bool) (y : ℕ). advancedTo Phase.Messages x b 1 at y) k (sym n))
+
+  pub refusal-put : question ≢ 0 → (out after : List ℕ) (from written : ℕ) (last : Bool) (at : ℕ) (r : Advanced)
+      → Written longestLine out after from written (refusedLine 0 question)
+      → r ≡ advancedTo Phase.Messages true b 1 at written
+      → Written longestLine out after from (r .written) (openingText b question)
+      × (r ≡ advancedTo Phase.Messages (openedOver question last) b 1 at (r .written))
+  unfolding openingText
+  refusal-put z out after from written last at r w e =
+      let n : r .written ≡ written = ap (λ (x : Advanced). x .written) e in
+      let k : true ≡ openedOver question last = rw (ne-eqb question 0 z) in
+      (rw (n, ne-eqb question 0 z) w, e ∙ ap₂ (λ (x : Bool) (y : ℕ). advancedTo Phase.Messages x b 1 at y) k (sym n))

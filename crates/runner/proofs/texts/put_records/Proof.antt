@@ -1,0 +1,71 @@
+-- After i turns the lines of the first i records are written.
+use Prim.Native.Nat.{_-_, _*_, _≤_}
+use mathlib.Core.Path.{_≡_}
+use lib.ListN.{length}
+use Rattle.rules.specs.Basics.{listTo}
+use Rattle.ledger.specs.RecordNumbers.{recordAt}
+use Rattle.file.specs.Lines.{longestLine, Written}
+use Rattle.file.specs.Program.{recordLines}
+use Rattle.file.proofs.PlacedLaws.{placed-length}
+use Rattle.runner.proofs.TextLaws.{no-lines, line-more, line-fits, written-long}
+use native.Mathlib.Omega.{arith}
+use Rattle.runner.proofs.texts.put_records.Statement.{statement}
+use Rattle.runner.proofs.texts.put_records.Tie as tie
+
+
+abbrev Inv-loop : tie.InvT-loop
+Inv-loop records count out₀ from written₀ i₀ out written i =
+    (i ≤ count) × Written (i * longestLine) out₀ out from written (recordLines (listTo (recordAt records) i))
+
+abbrev μ-loop : tie.MeasureT-loop
+μ-loop records count out₀ from written₀ i₀ out written i = count - i
+
+loop-holds : tie.Need-loop-holds Inv-loop μ-loop
+loop-holds c =
+    let start : tie.Start Inv-loop μ-loop = search in
+    (omega arith, no-lines (start .args .records .now) (start .args .out .now) (start .args .from))
+
+record-at-requires : tie.Need-record-at-requires Inv-loop μ-loop
+record-at-requires c κs =
+    let start : tie.Start Inv-loop μ-loop = search in
+    let turn : tie.In-loop Inv-loop μ-loop = search in
+    start .pre .0 _ (turn .loop-test .taken)
+
+put-record-requires : tie.Need-put-record-requires Inv-loop μ-loop
+put-record-requires c κs =
+    let start : tie.Start Inv-loop μ-loop = search in
+    let turn : tie.In-loop Inv-loop μ-loop = search in
+    ?
+
+add-i : tie.Need-add-i Inv-loop μ-loop
+add-i c = ?
+
+loop-less : tie.Need-loop-less Inv-loop μ-loop
+loop-less c =
+    let turn : tie.In-loop Inv-loop μ-loop = search in
+    let l = turn .loop-test .taken in
+    omega arith
+
+loop-again : tie.Need-loop-again Inv-loop μ-loop
+loop-again c = ?
+
+same-length : tie.Need-same-length Inv-loop μ-loop
+same-length c = ?
+
+returns : tie.Need-returns Inv-loop μ-loop
+returns c = ?
+
+pub put-records-spec : {M : Type 1} → statement M
+put-records-spec =
+    tie.close
+    (tie.spec
+    Inv-loop
+    μ-loop
+    loop-holds
+    record-at-requires
+    put-record-requires
+    add-i
+    loop-less
+    loop-again
+    same-length
+    returns)
