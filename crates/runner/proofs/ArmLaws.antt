@@ -12,7 +12,7 @@ use Rattle.rules.specs.declared.Fields.{Fields}
 use Rattle.rules.specs.World.{World}
 use Rattle.rules.specs.Whole.{Whole}
 use Rattle.rules.specs.Effects.{step}
-use Rattle.rules.specs.Lent.{Lists, worldIn, lendElements}
+use Rattle.rules.specs.Lent.{Lists, worldIn, lendElements, lendTables}
 use Rattle.recording.specs.Opened.{freshBook}
 use Rattle.settlement.specs.declared.Reply.{Reply}
 use Rattle.settlement.specs.Replies.{roomIn, Replied}
@@ -24,7 +24,7 @@ use Rattle.file.specs.Program.{endedBy, recordPlaces, answered, Heading, descri
 use Rattle.file.proofs.PlacedLaws.{loosened}
 use Rattle.runner.specs.declared.Progress.{Progress}
 use Rattle.runner.specs.declared.Advanced.{Advanced}
-use Rattle.runner.specs.Stages.{Stage, start, elements, messages, over, quiet, broken, moveOn, isMore}
+use Rattle.runner.specs.Stages.{Stage, Move, start, elements, messages, over, quiet, broken, moveOn, isMore}
 use Rattle.runner.specs.declared.parts.Ends.{Ends}
 use Rattle.runner.specs.Parts.{Sized, Fitted, endsOf, cutTo, frontsWorld}
 use Rattle.runner.specs.Texts.{longestText, advancedTo, waitsAt, replyText}
@@ -61,8 +61,19 @@ pub arm-element : (at from size next : ℕ) (bytes : List ℕ) (h : Heading) (va
 unfolding moveOn
 arm-element at from size next bytes h values t out place b r v e = rw e (record { holds = (refl, refl, v); text = nothing-written longestText out place; place = refl })
 
+-- one move for another
+pub advances-by : {m m′ : Move} {p : Progress} {t : Lists} {out after : List ℕ} {next from written : ℕ} → m ≡ m′
+    → Advances m′ p t out after next from written → Advances m p t out after next from written
+advances-by {p = p} {t = t} {out = out} {after = after} {next = next} {from = from} {written = written} e a =
+    subst (λ (x : Move). Advances x p t out after next from written) (sym e) a
+
 -- a message of an open book: the tables with the parts back in their places hold the book that it leaves
-module _ (b : Book) (t x : Lists) (e : Ends) (q : e ≡ endsOf b) (s : Sized t) (g : Fitted b) (l : AsLong e t x) (f : Fields) (r : Reply) where
+module _ (b : Book) (t : Lists) (e : Ends) (q : e ≡ endsOf b) (s : Sized t) (g : Fitted b)
+    (links holders states readings blocks : List ℕ) (lines sent : List ℤ)
+    (l : AsLong e t (lendTables links holders states readings blocks lines sent (cutTo e t))) (f : Fields) (r : Reply) where
+  abbrev x : Lists
+  x = lendTables links holders states readings blocks lines sent (cutTo e t)
+
   abbrev parts : Lists
   parts = lendElements (take (e .described) (t .elementData)) (take (e .priced) (t .prices)) x
 

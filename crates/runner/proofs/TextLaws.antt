@@ -16,6 +16,7 @@ use Rattle.rules.specs.declared.Book.{Book}
 use Rattle.rules.specs.declared.Body.{Body}
 use Rattle.rules.specs.declared.Fields.{Fields}
 use Rattle.rules.specs.declared.Record.{Record}
+use Rattle.rules.specs.Answers.{numberOf}
 use Rattle.rules.specs.Basics.{listTo}
 use Rattle.rules.specs.World.{World}
 use Rattle.rules.specs.Effects.{written, question17, question18, answer, accepted, writtenBy, recordsOf}
@@ -27,13 +28,17 @@ use Rattle.settlement.specs.Replies.{roomIn, Replied}
 use Rattle.file.specs.declared.fields.Phase.{Phase}
 use Rattle.file.specs.Lines.{bookLine, recordLine, refusedLine, longestLine, Written}
 use Rattle.file.specs.Program.{recordPlaces, recordLines, answered}
-use Rattle.file.proofs.PlacedLaws.{placed-none, joined, loosened}
+use Rattle.file.proofs.PlacedLaws.{placed-none, placed-length, joined, loosened}
 use Rattle.runner.specs.declared.Advanced.{Advanced}
-use Rattle.runner.specs.Texts.{advancedTo, openedOver, openingText, replyText}
+use Rattle.runner.specs.Texts.{longestText, advancedTo, openedOver, openingText, replyText}
 
 -- nothing
 pub nothing-written : (most : ℕ) (out : List ℕ) (from : ℕ) → Written most out out from from []
 nothing-written most out from = record { is = placed-none out from; end = omega arith; short = omega arith }
+
+-- what is written leaves the output as long as it was
+pub written-long : {k at n : ℕ} {a b t : List ℕ} → Written k a b at n t → at + k ≤ length a → length b ≡ length a
+written-long {at = at} {a = a} {t = t} w h = ap length (w .is) ∙ placed-length a at t (omega (arith, w .short))
 
 -- ---- the lines of the first records
 
@@ -56,9 +61,9 @@ module _ (numbers : List ℤ) where
       rw (add-one i, lines-more (listTo (recordAt numbers) i) (recordAt numbers i)) (loosened (omega arith) (joined v (rw e at w) room))
 
 -- a line behind them has room
-pub line-fits : (i count from at l m : ℕ) (text : List ℕ) → at ≡ from + length text → length text ≤ i * longestLine → i < count
-    → from + count * longestLine ≤ l → m ≡ l → at + longestLine ≤ m
-line-fits i count from at l m text end short less room same = omega arith
+pub line-fits : {i from at : ℕ} {a b text : List ℕ} → Written (i * longestLine) a b from at text → (count m : ℕ) → i < count
+    → from + count * longestLine ≤ length a → m ≡ length a → at + longestLine ≤ m
+line-fits w count m less room same = omega (arith, w .end, w .short)
 
 -- ---- the records of a message
 
@@ -104,6 +109,26 @@ module _ (w after : World) (f : Fields) (r : Reply) (lent out : List ℤ) (long 
   pub reply-text : (message : ℕ) → replyText r message out ≡ answered w f message
   unfolding replyText answered
   reply-text message = rw (p .number, room-is, read-records)
+
+module _ (r : Reply) (message : ℕ) (numbers : List ℤ) where
+  pub records-put : numberOf (r .answer) ≡ 0 → r .records ≤ recordPlaces → {from next : ℕ} {a b : List ℕ}
+      → Written (r .records * longestLine) a b from next (recordLines (listTo (recordAt numbers) (r .records)))
+      → Written longestText a b from next (replyText r message numbers)
+  unfolding replyText
+  records-put z few w = rw z (loosened (omega arith) w)
+
+  pub refused-put : (question : ℕ) → question ≡ numberOf (r .answer) → question ≢ 0 → {from next : ℕ} {a b : List ℕ}
+      → Written longestLine a b from next (refusedLine message question) → Written longestText a b from next (replyText r message numbers)
+  unfolding replyText
+  refused-put question e z w = rw (← e, ne-eqb question 0 z) (loosened (omega arith) w)
+
+-- the text ends where the run says
+pub text-moved : {over : Bool} {b : Book} {number next from written : ℕ} {out after text : List ℕ} (r : Advanced)
+    → Written longestText out after from written text → r ≡ advancedTo Phase.Messages over b number next written
+    → Written longestText out after from (r .written) text × (r ≡ advancedTo Phase.Messages over b number next (r .written))
+text-moved {over = over} {b = b} {number = number} {next = next} {from = from} {out = out} {after = after} {text = text} r w e =
+    let n = sym (ap (λ (x : Advanced). x .written) e) in
+    (subst (λ (x : ℕ). Written longestText out after from x text) n w, e ∙ ap (λ (x : ℕ). advancedTo Phase.Messages over b number next x) n)
 
 -- ---- an opening
 

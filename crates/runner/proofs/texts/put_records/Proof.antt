@@ -7,7 +7,7 @@ use Rattle.ledger.specs.RecordNumbers.{recordAt}
 use Rattle.file.specs.Lines.{longestLine, Written}
 use Rattle.file.specs.Program.{recordLines}
 use Rattle.file.proofs.PlacedLaws.{placed-length}
-use Rattle.runner.proofs.TextLaws.{no-lines, line-more, line-fits, written-long}
+use Rattle.runner.proofs.TextLaws.{written-long, no-lines, line-more, line-fits}
 use native.Mathlib.Omega.{arith}
 use Rattle.runner.proofs.texts.put_records.Statement.{statement}
 use Rattle.runner.proofs.texts.put_records.Tie as tie
@@ -19,6 +19,15 @@ Inv-loop records count out₀ from written₀ i₀ out written i =
 
 abbrev μ-loop : tie.MeasureT-loop
 μ-loop records count out₀ from written₀ i₀ out written i = count - i
+
+abbrev start-of : tie.In-loop Inv-loop μ-loop → tie.Start Inv-loop μ-loop
+start-of c = search
+
+long : (c : tie.In-loop Inv-loop μ-loop) → length (c .before .loop .out) ≡ length (start-of c .args .out .now)
+long c =
+    let i = c .before .loop .inv in
+    let r = start-of c .pre .1 in
+    written-long (i .1) (omega (arith, i .0))
 
 loop-holds : tie.Need-loop-holds Inv-loop μ-loop
 loop-holds c =
@@ -33,12 +42,16 @@ record-at-requires c κs =
 
 put-record-requires : tie.Need-put-record-requires Inv-loop μ-loop
 put-record-requires c κs =
-    let start : tie.Start Inv-loop μ-loop = search in
     let turn : tie.In-loop Inv-loop μ-loop = search in
-    ?
+    let start = start-of turn in
+    line-fits (turn .before .loop .inv .1) (start .args .count) _ (turn .loop-test .taken) (start .pre .1) (long turn)
 
 add-i : tie.Need-add-i Inv-loop μ-loop
-add-i c = ?
+add-i c =
+    let turn : tie.In-loop Inv-loop μ-loop = search in
+    let l = turn .loop-test .taken in
+    let f = start-of turn .fits .count .fits in
+    record { fits = omega arith }
 
 loop-less : tie.Need-loop-less Inv-loop μ-loop
 loop-less c =
@@ -47,13 +60,29 @@ loop-less c =
     omega arith
 
 loop-again : tie.Need-loop-again Inv-loop μ-loop
-loop-again c = ?
+loop-again c =
+    let turn : tie.In-loop Inv-loop μ-loop = search in
+    let read : tie.After-record-at Inv-loop μ-loop = search in
+    let put : tie.After-put-record Inv-loop μ-loop = search in
+    let start = start-of turn in
+    let l = turn .loop-test .taken in
+    let r = start .pre .1 in
+    (omega arith, line-more (start .args .records .now) _ _ _ _ _ _ _ (turn .before .loop .inv .1) _ (read .record-at .ensures) (put .put-record .ensures) (omega arith))
 
 same-length : tie.Need-same-length Inv-loop μ-loop
-same-length c = ?
+same-length c =
+    let start : tie.Start Inv-loop μ-loop = search in
+    let i = c .before .loop .inv in
+    let r = start .pre .1 in
+    written-long (i .1) (omega (arith, i .0))
 
 returns : tie.Need-returns Inv-loop μ-loop
-returns c = ?
+returns c =
+    let start : tie.Start Inv-loop μ-loop = search in
+    let i = c .before .loop .inv in
+    let n = c .loop-test .left in
+    let e : c .before .loop .i ≡ start .args .count = omega (arith, i .0) in
+    rw (← e) (i .1)
 
 pub put-records-spec : {M : Type 1} → statement M
 put-records-spec =
