@@ -14,7 +14,6 @@ pub mod ByKind
 pub mod Payment
 pub mod Spans
 pub mod WholeBook
-pub mod RowRange
 pub mod Posted
 pub mod Repaid
 pub mod Sizes

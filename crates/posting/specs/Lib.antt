@@ -1,12 +1,12 @@
 -- What the functions of this crate add to tables of changes, and the laws that make it the rules' lines.
 pub mod Moved
 pub mod Shares
+pub mod Payment
 pub mod Fits
+pub mod Charges
 pub mod PointRows
 pub mod Months
 pub mod Kinds
-pub mod Spans
 pub mod WholeBook
-pub mod RowRange
 pub mod Posted
 pub mod Repaid

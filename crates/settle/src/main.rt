@@ -40,6 +40,13 @@ fn no_readings() -> [u32; 11904]
     [0; 11904]
 }
 
+// Six numbers for each of 1,024 records.
+fn no_records() -> [i64; 6144]
+    ensures { λ r. ⌜ 6144 ≡ length r ⌝ }
+{
+    [0; 6144]
+}
+
 // Room for the longest text of a field, and as much again, so that not every field is written by itself.
 fn no_text() -> [u8; 262144]
     ensures { λ r. ⌜ 262144 ≡ length r ⌝ }
@@ -58,6 +65,7 @@ fn main() {
     let mut blocks = [0u8; 16];
     let mut lines = [0i64; 3072];
     let mut sent = [0i64; 3072];
+    let mut records = no_records();
     let mut out = no_text();
     let mut buffer = io::large_buffer();
     let mut progress = begin();
@@ -79,6 +87,7 @@ fn main() {
             &mut blocks,
             &mut lines,
             &mut sent,
+            &mut records,
             &mut out,
         );
         let written = ran.written;

@@ -1,37 +1,58 @@
 -- Each turn leaves numbers and tables that stand for a stage of the run, and a buffer whose bytes are within it.
 use mathlib.Core.Path.{_≡_, refl, sym, _∙_}
-use Prim.Native.Nat.{_≤_}
-use mathlib.Core.List.{[]}
+use Prim.Native.Nat.{ℕ, _≤_}
+use mathlib.Core.List.{List}
+use lib.IntN.{ℤ}
 use lib.ListN.{length}
 use lib.Seq.{length-take-le}
+use Rattle.rules.specs.Lent.{Lists, lendElements, lendTables, nothing}
 use Rattle.runner.specs.Stages.{start}
-use Rattle.runner.specs.Parts.{lentOf, Sized}
+use Rattle.runner.specs.Parts.{Sized}
 use Rattle.runner.specs.Holding.{Stands}
 use native.Mathlib.Omega.{arith}
 use borrow.Author.Needs.{needs}
 use Rattle.settle.proofs.main.Statement.{statement}
 use Rattle.settle.proofs.main.Tie as tie
-use Rattle.settle.proofs.main.Reads as reads
-use Rattle.settle.proofs.main.Lts as lts
-use Rattle.io.proofs.large_buffer.Reads as large-buffer-reads
-use Rattle.io.proofs.write_all.Reads as write-all-reads
-use Rattle.runner.proofs.begin.Reads as begin-reads
-use Rattle.runner.proofs.run.Reads as run-reads
-use Rattle.settle.proofs.keep_rest.Reads as keep-rest-reads
-use Rattle.settle.proofs.no_readings.Reads as no-readings-reads
-use Rattle.settle.proofs.no_text.Reads as no-text-reads
-use Rattle.settle.proofs.read_more.Reads as read-more-reads
+
+-- the tables as they are
+abbrev tables : List ℕ → List ℤ → (links holders states readings blocks : List ℕ) → (lines sent : List ℤ) → Lists
+tables ds ps links holders states readings blocks lines sent =
+    lendElements ds ps (lendTables links holders states readings blocks lines sent nothing)
 
 abbrev Inv-loop : tie.InvT-loop
-Inv-loop element-data₀ prices₀ links₀ holders₀ states₀ readings₀ blocks₀ lines₀ sent₀ out₀ buffer₀ progress₀ have₀ ended₀ turns₀ element-data prices links holders states readings blocks lines sent out buffer progress have ended turns =
-    Sized (lentOf element-data prices links holders states readings blocks lines sent) × Stands progress (lentOf element-data prices links holders states readings blocks lines sent) × (length buffer ≡ 65536) × (have ≤ 65536) × (length out ≡ 262144)
+Inv-loop element-data₀ prices₀ links₀ holders₀ states₀ readings₀ blocks₀ lines₀ sent₀ records₀ out₀ buffer₀ progress₀ have₀ ended₀ turns₀ element-data prices links holders states readings blocks lines sent records out buffer progress have ended turns =
+    Sized (tables element-data prices links holders states readings blocks lines sent)
+    × Stands progress (tables element-data prices links holders states readings blocks lines sent)
+    × (length buffer ≡ 65536) × (have ≤ 65536) × (length out ≡ 262144) × (length records ≡ 6144)
 
 abbrev μ-loop : tie.MeasureT-loop
-μ-loop element-data₀ prices₀ links₀ holders₀ states₀ readings₀ blocks₀ lines₀ sent₀ out₀ buffer₀ progress₀ have₀ ended₀ turns₀ element-data prices links holders states readings blocks lines sent out buffer progress have ended turns =
+μ-loop element-data₀ prices₀ links₀ holders₀ states₀ readings₀ blocks₀ lines₀ sent₀ records₀ out₀ buffer₀ progress₀ have₀ ended₀ turns₀ element-data prices links holders states readings blocks lines sent records out buffer progress have ended turns =
     turns
+
+-- places on the way
+abbrev Head : Type 0
+Head = tie.At-loop Inv-loop μ-loop
+
+abbrev Ran : Type 0
+Ran = tie.After-run Inv-loop μ-loop
+
+abbrev Kept : Type 0
+Kept = tie.After-keep-rest Inv-loop μ-loop
+
+abbrev head-of : Ran → Head
+head-of c = search
+
+abbrev turn-of : Ran → tie.In-loop Inv-loop μ-loop
+turn-of c = search
+
+abbrev ran-of : Kept → Ran
+ran-of c = search
 
 no-readings-requires : tie.Need-no-readings-requires Inv-loop μ-loop
 no-readings-requires c κs = search needs
+
+no-records-requires : tie.Need-no-records-requires Inv-loop μ-loop
+no-records-requires c κs = search needs
 
 no-text-requires : tie.Need-no-text-requires Inv-loop μ-loop
 no-text-requires c κs = search needs
@@ -43,86 +64,89 @@ begin-requires : tie.Need-begin-requires Inv-loop μ-loop
 begin-requires c κs = search needs
 
 loop-holds : tie.Need-loop-holds Inv-loop μ-loop
-loop-holds c = (
-  record {
-    elementData = refl;
-    prices = refl;
-    links = refl;
-    holders = refl;
-    states = refl;
-    readings = sym (c .before .before .before .no-readings .ensures);
-    blocks = refl;
-    lines = refl;
-    sent = refl;
-  },
-  record { stage = start; holds = c .begin .ensures .0 (lentOf [] [] [] [] [] [] [] [] []) },
-  sym (c .before .large-buffer .ensures),
-  omega arith,
-  sym (c .before .before .no-text .ensures),
-)
+loop-holds c =
+    let readings : tie.After-no-readings Inv-loop μ-loop = search in
+    let records : tie.After-no-records Inv-loop μ-loop = search in
+    let text : tie.After-no-text Inv-loop μ-loop = search in
+    let buffer : tie.After-large-buffer Inv-loop μ-loop = search in
+    (record {
+      elementData = refl;
+      prices = refl;
+      links = refl;
+      holders = refl;
+      states = refl;
+      readings = sym (readings .no-readings .ensures);
+      blocks = refl;
+      lines = refl;
+      sent = refl;
+    },
+    record { stage = start; holds = c .begin .ensures .0 nothing },
+    sym (buffer .large-buffer .ensures),
+    omega arith,
+    sym (text .no-text .ensures),
+    sym (records .no-records .ensures))
 
 array-share-prefix-buffer : tie.Need-array-share-prefix-buffer Inv-loop μ-loop
 array-share-prefix-buffer c =
-    let l = c .before .loop .inv in
+    let head : Head = search in
+    let l = head .loop .inv in
     omega (arith, l .2, l .3)
 
 slice-aggregate-run : tie.Need-slice-aggregate-run Inv-loop μ-loop
 slice-aggregate-run c =
-    let l = c .before .before .loop .inv in
-    sym (length-take-le (c .before .before .loop .have) (c .before .before .loop .buffer) (omega (arith, l .2, l .3)))
+    let head : Head = search in
+    let l = head .loop .inv in
+    sym (length-take-le (head .loop .have) (head .loop .buffer) (omega (arith, l .2, l .3)))
 
 slice-aggregate-run-2 : tie.Need-slice-aggregate-run-2 Inv-loop μ-loop
-slice-aggregate-run-2 c =
-    sym (c .before .before .before .loop .inv .0 .elementData)
+slice-aggregate-run-2 c = let head : Head = search in sym (head .loop .inv .0 .elementData)
 
 slice-aggregate-run-3 : tie.Need-slice-aggregate-run-3 Inv-loop μ-loop
-slice-aggregate-run-3 c =
-    sym (c .before .before .before .before .loop .inv .0 .prices)
+slice-aggregate-run-3 c = let head : Head = search in sym (head .loop .inv .0 .prices)
 
 slice-aggregate-run-4 : tie.Need-slice-aggregate-run-4 Inv-loop μ-loop
-slice-aggregate-run-4 c =
-    sym (c .before .before .before .before .before .loop .inv .0 .links)
+slice-aggregate-run-4 c = let head : Head = search in sym (head .loop .inv .0 .links)
 
 slice-aggregate-run-5 : tie.Need-slice-aggregate-run-5 Inv-loop μ-loop
-slice-aggregate-run-5 c =
-    sym (c .before .before .before .before .before .before .loop .inv .0 .holders)
+slice-aggregate-run-5 c = let head : Head = search in sym (head .loop .inv .0 .holders)
 
 slice-aggregate-run-6 : tie.Need-slice-aggregate-run-6 Inv-loop μ-loop
-slice-aggregate-run-6 c =
-    sym (c .before .before .before .before .before .before .before .loop .inv .0 .states)
+slice-aggregate-run-6 c = let head : Head = search in sym (head .loop .inv .0 .states)
 
 slice-aggregate-run-7 : tie.Need-slice-aggregate-run-7 Inv-loop μ-loop
-slice-aggregate-run-7 c =
-    sym (c .before .before .before .before .before .before .before .before .loop .inv .0 .readings)
+slice-aggregate-run-7 c = let head : Head = search in sym (head .loop .inv .0 .readings)
 
 slice-aggregate-run-8 : tie.Need-slice-aggregate-run-8 Inv-loop μ-loop
-slice-aggregate-run-8 c =
-    sym (c .before .before .before .before .before .before .before .before .before .loop .inv .0 .blocks)
+slice-aggregate-run-8 c = let head : Head = search in sym (head .loop .inv .0 .blocks)
 
 slice-aggregate-run-9 : tie.Need-slice-aggregate-run-9 Inv-loop μ-loop
-slice-aggregate-run-9 c =
-    sym (c .before .before .before .before .before .before .before .before .before .before .loop .inv .0 .lines)
+slice-aggregate-run-9 c = let head : Head = search in sym (head .loop .inv .0 .lines)
 
 slice-aggregate-run-10 : tie.Need-slice-aggregate-run-10 Inv-loop μ-loop
-slice-aggregate-run-10 c =
-    sym (c .before .before .before .before .before .before .before .before .before .before .before .loop .inv .0 .sent)
+slice-aggregate-run-10 c = let head : Head = search in sym (head .loop .inv .0 .sent)
 
 slice-aggregate-run-11 : tie.Need-slice-aggregate-run-11 Inv-loop μ-loop
-slice-aggregate-run-11 c =
-    sym (c .before .before .before .before .before .before .before .before .before .before .before .before .loop .inv .4)
+slice-aggregate-run-11 c = let head : Head = search in sym (head .loop .inv .5)
+
+slice-aggregate-run-12 : tie.Need-slice-aggregate-run-12 Inv-loop μ-loop
+slice-aggregate-run-12 c = let head : Head = search in sym (head .loop .inv .4)
 
 run-requires : tie.Need-run-requires Inv-loop μ-loop
 run-requires c κs =
-    (c .before .before .before .before .before .before .before .before .before .before .before .before .loop .inv .0, omega arith, c .before .before .before .before .before .before .before .before .before .before .before .before .loop .inv .1)
+    let head : Head = search in
+    let l = head .loop .inv in
+    (l .0, (l .1, (omega arith, l .5)))
 
 array-share-prefix-out : tie.Need-array-share-prefix-out Inv-loop μ-loop
 array-share-prefix-out c =
-    let r = c .before .before .before .before .before .before .before .before .before .before .run .ensures .1 .text in
+    let ran : Ran = search in
+    let r = ran .run .ensures .1 .text in
     omega (arith, r)
 
 slice-aggregate-write-all : tie.Need-slice-aggregate-write-all Inv-loop μ-loop
 slice-aggregate-write-all c =
-    sym (length-take-le _ _ (c .before .before .before .before .before .before .before .before .before .before .before .run .ensures .1 .text))
+    let ran : Ran = search in
+    sym (length-take-le _ _ (ran .run .ensures .1 .text))
 
 write-all-requires : tie.Need-write-all-requires Inv-loop μ-loop
 write-all-requires c κs = search needs
@@ -132,52 +156,66 @@ returns c = search needs
 
 slice-aggregate-keep-rest : tie.Need-slice-aggregate-keep-rest Inv-loop μ-loop
 slice-aggregate-keep-rest c =
-    sym (c .before .before .before .before .before .before .before .before .before .before .before .before .before .before .before .before .before .before .before .before .before .before .before .before .before .before .before .before .before .loop .inv .2)
+    let ran : Ran = search in
+    sym (head-of ran .loop .inv .2)
 
 keep-rest-requires : tie.Need-keep-rest-requires Inv-loop μ-loop
 keep-rest-requires c κs =
-    let l = c .before .before .before .before .before .before .before .before .before .before .before .before .before .before .before .before .before .before .before .before .before .before .before .before .before .before .before .before .before .loop .inv in
-    let t = length-take-le (c .before .before .before .before .before .before .before .before .before .before .before .before .before .before .before .before .before .before .before .before .before .before .before .before .before .before .before .before .before .loop .have) (c .before .before .before .before .before .before .before .before .before .before .before .before .before .before .before .before .before .before .before .before .before .before .before .before .before .before .before .before .before .loop .buffer) (omega (arith, l .2, l .3)) in
-    (omega (arith, t, c .before .before .before .before .before .before .before .before .before .before .before .before .before .before .before .before .run .ensures .1 .place), omega (arith, l .2, l .3))
+    let ran : Ran = search in
+    let head = head-of ran in
+    let l = head .loop .inv in
+    let t = length-take-le (head .loop .have) (head .loop .buffer) (omega (arith, l .2, l .3)) in
+    (omega (arith, t, ran .run .ensures .1 .place), omega (arith, l .2, l .3))
 
 slice-aggregate-read-more : tie.Need-slice-aggregate-read-more Inv-loop μ-loop
 slice-aggregate-read-more c =
-    sym (c .before .before .keep-rest .kept .0 ∙ c .before .before .before .before .before .before .before .before .before .before .before .before .before .before .before .before .before .before .before .before .before .before .before .before .before .before .before .before .before .before .before .before .loop .inv .2)
+    let kept : Kept = search in
+    sym (kept .keep-rest .kept .0 ∙ head-of (ran-of kept) .loop .inv .2)
 
 read-more-requires : tie.Need-read-more-requires Inv-loop μ-loop
 read-more-requires c κs =
-    let l = c .before .before .before .before .before .before .before .before .before .before .before .before .before .before .before .before .before .before .before .before .before .before .before .before .before .before .before .before .before .before .before .before .loop .inv in
-    let k = c .before .before .keep-rest .kept .0 in
-    omega (arith, l .2, l .3, k, c .before .before .keep-rest .ensures .0)
+    let kept : Kept = search in
+    let l = head-of (ran-of kept) .loop .inv in
+    omega (arith, l .2, l .3, kept .keep-rest .kept .0, kept .keep-rest .ensures .0)
 
 sub-turns : tie.Need-sub-turns Inv-loop μ-loop
-sub-turns c = let t = c .before .before .before .before .before .before .before .before .before .before .before .before .before .before .before .before .before .before .before .before .before .before .before .before .before .before .before .before .before .before .before .before .before .loop-test .taken in search needs
+sub-turns c =
+    let kept : Kept = search in
+    let t = turn-of (ran-of kept) .loop-test .taken in
+    omega arith
 
 loop-less : tie.Need-loop-less Inv-loop μ-loop
-loop-less c = let t = c .before .before .before .before .before .before .before .before .before .before .before .before .before .before .before .before .before .before .before .before .before .before .before .before .before .before .before .before .before .before .before .before .before .loop-test .taken in search needs
+loop-less c =
+    let kept : Kept = search in
+    let t = turn-of (ran-of kept) .loop-test .taken in
+    omega arith
 
 loop-again : tie.Need-loop-again Inv-loop μ-loop
 loop-again c =
-    let l = c .before .before .before .before .before .before .before .before .before .before .before .before .before .before .before .before .before .before .before .before .before .before .before .before .before .before .before .before .before .before .before .before .before .before .loop .inv in
-    let r = c .before .before .before .before .before .before .before .before .before .before .before .before .before .before .before .before .before .before .before .before .before .run .ensures .0 (l .1 .stage) (l .1 .holds) in
-    let m = c .before .read-more .ensures in
-    let b = m .2 ∙ c .before .before .before .before .keep-rest .kept .0 ∙ l .2 in (
-      record {
-        elementData = c .before .before .before .before .before .before .before .before .before .before .before .before .before .before .before .before .before .before .before .before .before .run .kept .1 .1 .1 .1 .0 ∙ l .0 .elementData;
-        prices = c .before .before .before .before .before .before .before .before .before .before .before .before .before .before .before .before .before .before .before .before .before .run .kept .1 .1 .1 .1 .1 .0 ∙ l .0 .prices;
-        links = c .before .before .before .before .before .before .before .before .before .before .before .before .before .before .before .before .before .before .before .before .before .run .kept .1 .1 .1 .1 .1 .1 .0 ∙ l .0 .links;
-        holders = c .before .before .before .before .before .before .before .before .before .before .before .before .before .before .before .before .before .before .before .before .before .run .kept .1 .1 .1 .1 .1 .1 .1 .0 ∙ l .0 .holders;
-        states = c .before .before .before .before .before .before .before .before .before .before .before .before .before .before .before .before .before .before .before .before .before .run .kept .1 .1 .1 .1 .1 .1 .1 .1 .0 ∙ l .0 .states;
-        readings = c .before .before .before .before .before .before .before .before .before .before .before .before .before .before .before .before .before .before .before .before .before .run .kept .1 .1 .1 .1 .1 .1 .1 .1 .1 .0 ∙ l .0 .readings;
-        blocks = c .before .before .before .before .before .before .before .before .before .before .before .before .before .before .before .before .before .before .before .before .before .run .kept .1 .1 .1 .1 .1 .1 .1 .1 .1 .1 .0 ∙ l .0 .blocks;
-        lines = c .before .before .before .before .before .before .before .before .before .before .before .before .before .before .before .before .before .before .before .before .before .run .kept .1 .1 .1 .1 .1 .1 .1 .1 .1 .1 .1 .0 ∙ l .0 .lines;
-        sent = c .before .before .before .before .before .before .before .before .before .before .before .before .before .before .before .before .before .before .before .before .before .run .kept .1 .1 .1 .1 .1 .1 .1 .1 .1 .1 .1 .1 .0 ∙ l .0 .sent;
-      },
-      record { stage = r .stage; holds = r .holds },
-      b,
-      omega (arith, m .1, b),
-      c .before .before .before .before .before .before .before .before .before .before .before .before .before .before .before .before .before .before .before .before .before .run .kept .1 .1 .1 .1 .1 .1 .1 .1 .1 .1 .1 .1 .1 .0 ∙ l .4,
-    )
+    let more : tie.After-read-more Inv-loop μ-loop = search in
+    let kept : Kept = search in
+    let ran = ran-of kept in
+    let l = head-of ran .loop .inv in
+    let r = ran .run .ensures .0 (l .1 .stage) (l .1 .holds) in
+    let m = more .read-more .ensures in
+    let b = m .2 ∙ kept .keep-rest .kept .0 ∙ l .2 in
+    let k = ran .run .kept .1 .1 .1 .1 in
+    (record {
+      elementData = k .0 ∙ l .0 .elementData;
+      prices = k .1 .0 ∙ l .0 .prices;
+      links = k .1 .1 .0 ∙ l .0 .links;
+      holders = k .1 .1 .1 .0 ∙ l .0 .holders;
+      states = k .1 .1 .1 .1 .0 ∙ l .0 .states;
+      readings = k .1 .1 .1 .1 .1 .0 ∙ l .0 .readings;
+      blocks = k .1 .1 .1 .1 .1 .1 .0 ∙ l .0 .blocks;
+      lines = k .1 .1 .1 .1 .1 .1 .1 .0 ∙ l .0 .lines;
+      sent = k .1 .1 .1 .1 .1 .1 .1 .1 .0 ∙ l .0 .sent;
+    },
+    record { stage = r .stage; holds = r .holds },
+    b,
+    omega (arith, m .1, b),
+    k .1 .1 .1 .1 .1 .1 .1 .1 .1 .1 .0 ∙ l .4,
+    k .1 .1 .1 .1 .1 .1 .1 .1 .1 .0 ∙ l .5)
 
 returns-2 : tie.Need-returns-2 Inv-loop μ-loop
 returns-2 c = search needs
@@ -192,6 +230,7 @@ main-spec =
     Inv-loop
     μ-loop
     no-readings-requires
+    no-records-requires
     no-text-requires
     large-buffer-requires
     begin-requires
@@ -208,6 +247,7 @@ main-spec =
     slice-aggregate-run-9
     slice-aggregate-run-10
     slice-aggregate-run-11
+    slice-aggregate-run-12
     run-requires
     array-share-prefix-out
     slice-aggregate-write-all
