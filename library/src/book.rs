@@ -2,7 +2,7 @@
 //!
 //! Each exported function asks that its slices have the lengths named below and,
 //! where its name ends in `_within`, that the book is well formed (`Whole` in
-//! `crates/rules/proofs/Parts.antt`). Both hold of every [`Book`]:
+//! `crates/rules/specs/Whole.antt`). Both hold of every [`Book`]:
 //!
 //! - A `Book` comes from [`Book::open`] alone, or is a clone of one. It is made where
 //!   `settlement_book_open` answers 0, whose promise says that the nine numbers and
@@ -63,19 +63,40 @@ exported! { mut:
 
 exported! { const:
     settlement_book_line(supplier: u64, element: u64, line: *mut i64, line_length: usize);
-    settlement_book_line_within(supplier: u64, element: u64, line: *mut i64, line_length: usize);
     settlement_book_periods(
         point: u64, element: u64,
         rows: *mut u64, rows_length: usize,
         count: *mut u64
     );
-    settlement_book_periods_within(
+    settlement_book_day_without_holder(point: u64, day: *mut u64);
+}
+
+// The queries of a well-formed book are lent the tables that they read.
+unsafe extern "C" {
+    #[rustfmt::skip]
+    fn settlement_book_line_within(
+        book: *const u64, book_length: usize,
+        lines: *const i64, lines_length: usize,
+        supplier: u64, element: u64,
+        line: *mut i64, line_length: usize,
+    ) -> u64;
+    #[rustfmt::skip]
+    fn settlement_book_periods_within(
+        book: *const u64, book_length: usize,
+        links: *const u64, links_length: usize,
         point: u64, element: u64,
         rows: *mut u64, rows_length: usize,
-        count: *mut u64
-    );
-    settlement_book_day_without_holder(point: u64, day: *mut u64);
-    settlement_book_day_without_holder_within(point: u64, day: *mut u64);
+        count: *mut u64,
+    ) -> u64;
+    #[rustfmt::skip]
+    fn settlement_book_day_without_holder_within(
+        book: *const u64, book_length: usize,
+        links: *const u64, links_length: usize,
+        holders: *const u64, holders_length: usize,
+        states: *const u64, states_length: usize,
+        point: u64,
+        day: *mut u64,
+    ) -> u64;
 }
 
 /// Calls an exported function with a book's tables, for writing.
@@ -239,9 +260,15 @@ impl Book {
         let mut line = [0; 3];
         // Safety: nine numbers, a line of three, and the book is well formed.
         let answer = unsafe {
-            read_with!(
-                self,
-                settlement_book_line_within(supplier, element, line.as_mut_ptr(), 3)
+            settlement_book_line_within(
+                self.numbers.as_ptr(),
+                self.numbers.len(),
+                self.lines.as_ptr(),
+                self.lines.len(),
+                supplier,
+                element,
+                line.as_mut_ptr(),
+                3,
             )
         };
         Question::none_of(answer).map(|()| line_of(line))
@@ -273,9 +300,16 @@ impl Book {
         // Safety: nine numbers, as many rows as there are links, and the book is well
         // formed.
         let answer = unsafe {
-            read_with!(
-                self,
-                settlement_book_periods_within(point, element, rows, length, &mut count)
+            settlement_book_periods_within(
+                self.numbers.as_ptr(),
+                self.numbers.len(),
+                self.links.as_ptr(),
+                self.links.len(),
+                point,
+                element,
+                rows,
+                length,
+                &mut count,
             )
         };
         Question::none_of(answer).map(|()| self.periods_listed(count))
@@ -312,9 +346,17 @@ impl Book {
         let mut day = NO_DAY;
         // Safety: nine numbers, and the book is well formed.
         let answer = unsafe {
-            read_with!(
-                self,
-                settlement_book_day_without_holder_within(point, &mut day)
+            settlement_book_day_without_holder_within(
+                self.numbers.as_ptr(),
+                self.numbers.len(),
+                self.links.as_ptr(),
+                self.links.len(),
+                self.holders.as_ptr(),
+                self.holders.len(),
+                self.states.as_ptr(),
+                self.states.len(),
+                point,
+                &mut day,
             )
         };
         Question::none_of(answer).map(|()| (day < NO_DAY).then_some(day))
