@@ -1,7 +1,7 @@
 -- A run from an opened book is the run that demand 3 speaks of. By the function's promise and the proof of demand 3; the records are read
 -- back from the list number by number.
 use Prim.Native.Nat.{ℕ}
-use mathlib.Core.Path.{_≡_, refl, sym, ap, ap₂, subst, _∙_}
+use mathlib.Core.Path.{_≡_, sym, ap, ap₂, subst, _∙_}
 use mathlib.Core.List.{List, [], _∷_, _++_, append-assoc}
 use lib.IntN.{ℤ}
 use lib.ListN.{length, getD, drop}

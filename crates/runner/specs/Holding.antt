@@ -1,5 +1,5 @@
 -- What the numbers of a run and the tables lent to it stand for, and what is promised of one field.
-use Prim.Native.Nat.{ℕ, suc, _+_, _-_, _*_, _≤_, _<_, min}
+use Prim.Native.Nat.{ℕ, _+_, _-_, _*_, _≤_, _<_, min}
 use mathlib.Core.Path.{_≡_}
 use mathlib.Core.Bool.{Bool, true, false, not, _&&_}
 use mathlib.Core.List.{List, [], _++_}
@@ -16,7 +16,6 @@ use Rattle.file.specs.declared.fields.Phase.{Phase}
 use Rattle.file.specs.Lines.{Written}
 use Rattle.file.specs.Program.{Heading, describedAll, pricesAll, settlePoints}
 use Rattle.runner.specs.declared.Progress.{Progress}
-use Rattle.runner.specs.declared.Advanced.{Advanced}
 use Rattle.runner.specs.declared.Ran.{Ran}
 use Rattle.runner.specs.Stages.{Stage, start, elements, messages, over, printed, Move}
 use Rattle.runner.specs.Parts.{frontsWorld}

@@ -7,7 +7,6 @@ ghost use lib.ListN.{length, take, drop};
 ghost use Rattle.rules.specs.Sizes.{mostElements, elementSize, pricePlaces};
 ghost use Rattle.rules.specs.Lent.{Lists, lendElements, left, was};
 ghost use Rattle.rules.specs.World.{World};
-ghost use Rattle.recording.specs.Opened.{freshBook};
 ghost use Rattle.file.specs.Field.{Inside};
 ghost use Rattle.file.specs.Lines.{longestLine};
 ghost use Rattle.file.specs.Program.{Heading};

@@ -26,7 +26,8 @@ fn keep_rest(buffer: &mut [u8], at: usize, have: usize) -> usize
 // Reads once behind the first `have` bytes; how many there are then. The same number where the input has ended or cannot be read.
 fn read_more(buffer: &mut [u8], have: usize) -> usize
     requires { ⌜ have ≤ length (now buffer) ⌝ }
-    ensures { λ r. ⌜ (have ≤ r) × (r ≤ length (left buffer)) × (length (left buffer) ≡ length (was buffer)) × (take have (left buffer) ≡ take have (was buffer)) ⌝ }
+    ensures { λ r. ⌜ (have ≤ r) × (r ≤ length (left buffer))
+        × (length (left buffer) ≡ length (was buffer)) × (take have (left buffer) ≡ take have (was buffer)) ⌝ }
 {
     let free = &mut buffer[have..];
     let got = libc::read(STDIN_FILENO, free);

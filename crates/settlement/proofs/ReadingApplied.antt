@@ -1,8 +1,8 @@
 -- Message 6: the changes of the lines of the supplier who pays, as changes of all lines, are the rules'; so question 17 asks of them what
 -- the code tests, and what is written are the rules' lines.
-use Prim.Native.Nat.{ℕ, _+_, _*_, _/_, _%_, _<_}
-use mathlib.Core.Path.{_≡_, refl, sym, ap, _∙_}
-use mathlib.Core.Bool.{Bool, true, false, _&&_, cond}
+use Prim.Native.Nat.{ℕ, _+_, _*_, _/_, _%_}
+use mathlib.Core.Path.{_≡_, sym, ap, _∙_}
+use mathlib.Core.Bool.{Bool, true, false, cond}
 use mathlib.Core.List.{List}
 use lib.IntN.{ℤ, pos}
 use lib.ListN.{length, getD}
@@ -10,10 +10,10 @@ use lib.Dec.{eqb}
 use Rattle.rules.specs.declared.Book.{Book}
 use Rattle.rules.specs.declared.Body.{Body}
 use Rattle.rules.specs.declared.Body.the-variants.{Reading}
-use Rattle.rules.specs.Basics.{allTo, listTo}
+use Rattle.rules.specs.Basics.{allTo}
 use Rattle.rules.specs.Lines.{Measure}
 use Rattle.rules.specs.Sizes.{lineSize}
-use Rattle.rules.specs.World.{Opening, Tables, World, lineCount}
+use Rattle.rules.specs.World.{Opening, Tables, lineCount}
 use Rattle.rules.specs.WellFormed.{withinLimits, rowsFit, linePlaces, lineRight, linesRight, question2}
 use Rattle.rules.specs.Effects.{told, withReadings, supplierOf, elementOf, question17}
 use Rattle.rules.specs.Lent.{Lists, worldIn, openingIn, tablesIn, lendLines}
@@ -25,7 +25,7 @@ use Rattle.metering.specs.Hours.{Reread, RereadBoth, ReadingSettled}
 use Rattle.recording.specs.Recorded.{RecordedAs}
 use Rattle.ledger.specs.Added.{ByRules, ownAt, ownChanges, ownLines}
 use Rattle.ledger.specs.Moved.{linesIn}
-use Rattle.settlement.specs.Replies.{ReadyIn, Applied}
+use Rattle.settlement.specs.Replies.{Applied}
 use Rattle.settlement.proofs.Applying.{Rules, fits-is, applied, applied-not}
 
 module _ (o : Opening) (t : Tables) (b : Body) (who : ℕ) where

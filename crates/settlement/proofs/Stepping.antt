@@ -3,7 +3,7 @@
 use Prim.Native.Nat.{ℕ, _+_, _≤_, _<_, min}
 use mathlib.Core.Path.{_≡_, refl, sym, ap, ap₂, subst, _∙_}
 use mathlib.Core.Logic.{_≢_}
-use mathlib.Core.Bool.{true, false, cond, false≢true}
+use mathlib.Core.Bool.{true, false, false≢true}
 use mathlib.Core.List.{List, [], _∷_}
 use types.Run.{OneOf, miss}
 use denote.Enum.Declared.{tagOf}
@@ -23,7 +23,7 @@ use Rattle.rules.specs.Answers.{numberOf}
 use Rattle.rules.specs.World.{World, factsOf, holderOn, stateOn, energyOf}
 use Rattle.rules.specs.WellFormed.{rowsFit, withinLimits, question2}
 use Rattle.rules.specs.Messages.{understood, bodyIn}
-use Rattle.rules.specs.Effects.{told, withBlocks, isRound, written, records, sentAfter, tablesAfter, linesAfter, posted, ask, question17, question18, answerTo, askBook, answer, accepted, stepBy, step, writtenBy, recordsOf}
+use Rattle.rules.specs.Effects.{told, withBlocks, isRound, written, records, tablesAfter, linesAfter, posted, ask, question17, question18, answerTo, answer, accepted, stepBy, step, writtenBy, recordsOf}
 use Rattle.rules.specs.Lent.{Lists, worldIn, openingIn, tablesIn, lendMoney, lendBlocks}
 use Rattle.rules.specs.Whole.{Whole}
 use Rattle.rules.specs.Ready.{Ready}

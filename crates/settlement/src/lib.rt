@@ -113,7 +113,8 @@ fn apply_lines(
         (now readings) (lendLines (now lines) o)) body) ⌝ }
     requires { ⌜ writesRow body ≡ true ⌝ }
     ensures applied { λ r. ⌜ ((o : Lists) →
-        let t = lendCharging (was element_data) (was prices) (was links) (was holders) (was states) (was readings) (lendLines (was lines) o) in
+        let t = lendCharging (was element_data) (was prices) (was links) (was holders) (was states) (was readings)
+        (lendLines (was lines) o) in
         let after = lendRows (left links) (left holders) (left states) (lendLines (left lines) t) in
         ReadyIn book t body → Applied (worldIn book t) (worldIn (r .book) after) body (numberOf (r .answer))) ⌝ }
     ensures none { λ r. ⌜ r .records ≡ 0 ⌝ }
@@ -170,7 +171,8 @@ fn apply_reading(
         (now readings) (lendLines (now lines) o)) (Reading (new .point) (new .day) (new .hour) (new .energy))) ⌝ }
     ensures applied { λ r. ⌜ ((o : Lists) →
         let body = Reading (new .point) (new .day) (new .hour) (new .energy) in
-        let t = lendCharging (was element_data) (was prices) (was links) (was holders) (was states) (was readings) (lendLines (was lines) o) in
+        let t = lendCharging (was element_data) (was prices) (was links) (was holders) (was states) (was readings)
+        (lendLines (was lines) o) in
         let after = lendReadings (left readings) (lendLines (left lines) t) in
         ReadyIn book t body → Applied (worldIn book t) (worldIn (r .book) after) body (numberOf (r .answer))) ⌝ }
     ensures none { λ r. ⌜ r .records ≡ 0 ⌝ }

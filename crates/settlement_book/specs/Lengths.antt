@@ -3,7 +3,7 @@ use Prim.Native.Nat.{_*_, _≤_}
 use mathlib.Core.Path.{_≡_}
 use lib.ListN.{length}
 use Rattle.rules.specs.declared.Book.{Book}
-use Rattle.rules.specs.Sizes.{elementSize, lineSize, places}
+use Rattle.rules.specs.Sizes.{elementSize, lineSize}
 use Rattle.rules.specs.Lent.{Lists, openingIn}
 use Rattle.rules.specs.Whole.{Limits}
 use Rattle.settlement_book.specs.declared.questions.Lengths.{Lengths}

@@ -6,7 +6,6 @@ use mathlib.Core.Bool.{true, false}
 use mathlib.Core.List.{List}
 use lib.ListN.{length}
 use lib.Seq.{length-take-le}
-use Rattle.rules.specs.declared.Book.{Book}
 use Rattle.rules.specs.Lent.{Lists, worldIn, given}
 use Rattle.file.specs.declared.fields.Found.{Found}
 use Rattle.runner.specs.Holding.{Represents}

@@ -8,8 +8,6 @@ use native.Mathlib.Omega.{arith}
 use borrow.Author.Needs.{needs}
 use Rattle.settle.proofs.keep_rest.Statement.{statement}
 use Rattle.settle.proofs.keep_rest.Tie as tie
-use Rattle.settle.proofs.keep_rest.Reads as reads
-use Rattle.settle.proofs.keep_rest.Lts as lts
 
 abbrev Inv-loop : tie.InvT-loop
 Inv-loop buffer₀ at have rest i₀ buffer i = (i ≤ rest) × (buffer ≡ paste buffer₀ 0 (drop at buffer₀) i)

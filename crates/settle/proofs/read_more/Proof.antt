@@ -2,14 +2,9 @@
 use Prim.Native.Nat.{_-_}
 use lib.ListN.{length}
 use borrow.Rule.Slice.PartMut.{take-put}
-use native.Mathlib.Omega.{arith}
 use borrow.Author.Needs.{needs}
 use Rattle.settle.proofs.read_more.Statement.{statement}
 use Rattle.settle.proofs.read_more.Tie as tie
-use Rattle.settle.proofs.read_more.Reads as reads
-use Rattle.settle.proofs.read_more.Lts as lts
-use Rattle.io.proofs.count.Reads as count-reads
-use Rattle.libc.proofs.read.Reads as read-reads
 
 sub-free : tie.Need-sub-free
 sub-free c = search needs
@@ -33,7 +28,12 @@ same-length : tie.Need-same-length
 same-length c = search needs
 
 returns : tie.Need-returns
-returns c = (search needs, search needs, search needs, take-put (c .before .before .before .before .before .before .before .before .before .before .args .have) (length (c .before .before .before .before .before .before .before .before .before .before .args .buffer .now) - c .before .before .before .before .before .before .before .before .before .before .args .have) (c .before .before .before .before .before .before .before .before .before .before .args .buffer .now) (c .before .before .before .before .before .before .read .last .1 .0) (c .before .before .before .before .before .before .before .before .before .before .pre))
+returns c =
+    let start : tie.Start = search in
+    let got : tie.After-read = search in
+    let a = start .args in
+    (search needs, search needs, search needs,
+    take-put (a .have) (length (a .buffer .now) - a .have) (a .buffer .now) (got .read .last .1 .0) (start .pre))
 
 pub read-more-spec : {M : Type 1} → statement M
 read-more-spec =

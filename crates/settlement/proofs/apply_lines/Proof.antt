@@ -1,18 +1,12 @@
 -- The changes are the rules', so the test is question 17, and what is written is the rules' next position; a refusal has written nothing.
-use mathlib.Core.Path.{_≡_, refl, sym, ap, subst, _∙_}
-use Prim.Native.Nat.{_<_}
-use Rattle.rules.specs.Sizes.{dayRoom}
-use Rattle.rules.specs.Answers.{numberOf}
+use mathlib.Core.Path.{refl, sym, _∙_}
 use Rattle.rules.specs.World.{lineCount}
-use Rattle.rules.specs.Lent.{Lists, worldIn, openingIn, tablesIn, lendCharging, lendLines, lendRows}
+use Rattle.rules.specs.Lent.{Lists, worldIn, lendCharging, lendLines}
 use Rattle.rules.proofs.Tests.{both}
 use Rattle.rules.proofs.Parts.{few-lines, lengths}
 use Rattle.tables.proofs.Right.{whole-rows}
-use Rattle.facts.specs.Links.{linkEnds}
 use Rattle.facts.proofs.LinkLaws.{link-fits, ends-below}
-use Rattle.posting.specs.Posted.{PostedIn}
 use Rattle.recording.proofs.Passed.{row-fits}
-use Rattle.settlement.specs.Replies.{ReadyIn, Applied}
 use Rattle.settlement.proofs.Applying.{postable, row-no-reading, zeros, zeros-room, changed, posted-rules, fits-is, applied, applied-not}
 use borrow.Author.Needs.{needs}
 use Rattle.settlement.proofs.apply_lines.Statement.{statement}

@@ -1,18 +1,16 @@
 -- Question 6, then 7 to 16, then 17 and 18 by the kind of the message; each way ends in the rules' answer and step.
 use mathlib.Core.Path.{_≡_, refl, sym, ap, subst, _∙_}
 use mathlib.Core.Option.{some}
-use Rattle.rules.specs.declared.Body.{Body}
 use Rattle.rules.specs.declared.Message.{Message}
 use Rattle.rules.specs.World.{World}
 use Rattle.rules.specs.Answers.{numberOf}
 use Rattle.rules.specs.Messages.{understood}
 use Rattle.rules.specs.Effects.{isRound}
-use Rattle.rules.specs.Ready.{Ready}
-use Rattle.rules.specs.Lent.{Lists, worldIn, openingIn, tablesIn, given}
+use Rattle.rules.specs.Lent.{Lists, worldIn, given}
 use Rattle.validation.specs.Found.{foundMessage}
 use Rattle.validation.specs.Decided.{decidedIn}
 use Rattle.validation.proofs.Whole.{whole-readable, in-ranges}
-use Rattle.settlement.specs.Replies.{ReadyIn, Applied}
+use Rattle.settlement.specs.Replies.{ReadyIn}
 use Rattle.settlement.proofs.Stepping.{replied-refused, replied-applied, replied-sent, replied-whole, answer-none, answer-refused, passed-ready, row-no-round, round-is, block-applied}
 use Rattle.rules.proofs.Parts.{lengths}
 use Rattle.recording.proofs.Passed.{block-fits, writes-row}

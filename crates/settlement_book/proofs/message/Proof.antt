@@ -1,5 +1,5 @@
 -- The questions of the book, then the message of a well-formed one.
-use mathlib.Core.Path.{_≡_, refl, sym, ap, _∙_}
+use mathlib.Core.Path.{refl, sym, ap, _∙_}
 use Rattle.rules.specs.declared.Book.{Book}
 use Rattle.rules.specs.World.{World}
 use Rattle.rules.specs.Answers.{numberOf}

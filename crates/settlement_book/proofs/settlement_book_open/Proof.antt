@@ -1,7 +1,5 @@
 -- Where questions 2 to 4 pass, cleared tables are those of the opened book, whose numbers are put in the place of the lent ones.
 use mathlib.Core.Path.{_≡_, refl, sym, ap, _∙_}
-use Prim.Native.Nat.{ℕ}
-use mathlib.Core.List.{List}
 use lib.ListN.{getD}
 use Rattle.rules.specs.declared.Book.{Book}
 use Rattle.rules.specs.World.{World}

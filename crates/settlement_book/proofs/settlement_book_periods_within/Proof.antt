@@ -1,5 +1,5 @@
 -- The part of a well-formed book, copied to the front of the list.
-use mathlib.Core.Path.{_≡_, sym, ap, subst, _∙_}
+use mathlib.Core.Path.{sym, ap, subst, _∙_}
 use Prim.Native.Nat.{ℕ}
 use mathlib.Core.List.{List}
 use native.Mathlib.Nat.{le-trans}
@@ -7,7 +7,6 @@ use lib.ListN.{length}
 use Rattle.rules.specs.declared.Book.{Book}
 use Rattle.rules.specs.Lent.{Lists, worldIn, lendLinks}
 use Rattle.rules.specs.Queries.{periodsNumber, periodsQuery}
-use Rattle.rules.specs.Answers.{numberOf}
 use Rattle.rules.specs.Whole.{Whole}
 use Rattle.queries.proofs.Asks.{periods-asks}
 use Rattle.settlement_book.specs.Numbers.{bookIn, frontOf}

@@ -1,6 +1,6 @@
 -- An element, whose value lies within the bytes, or a field that is not in its place.
 use mathlib.Core.Path.{ap}
-use Rattle.rules.specs.Lent.{Lists, lendElements}
+use Rattle.rules.specs.Lent.{lendElements}
 use Rattle.runner.specs.declared.Advanced.{Advanced}
 use Rattle.runner.proofs.FoundLaws.{elements-else, element-inside}
 use Rattle.runner.proofs.ArmLaws.{arm-element}

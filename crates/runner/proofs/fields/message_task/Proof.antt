@@ -1,5 +1,4 @@
 -- By the tag of the field.
-use Rattle.file.specs.declared.fields.Found.the-variants.{Message}
 
 use mathlib.Core.Path.{sym, ap}
 use Rattle.runner.specs.Tasks.{messageTask}

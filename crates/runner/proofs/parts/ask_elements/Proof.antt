@@ -1,5 +1,5 @@
 -- The parts of the two tables have their exact lengths, so question 4 is asked of the elements that were read.
-use mathlib.Core.Path.{_≡_, sym, ap, _∙_}
+use mathlib.Core.Path.{sym, ap, _∙_}
 use lib.Seq.{length-take-le}
 use Rattle.rules.specs.Lent.{lendElements}
 use Rattle.runner.specs.declared.parts.Ends.{Ends}

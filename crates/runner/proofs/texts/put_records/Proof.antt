@@ -6,7 +6,6 @@ use Rattle.rules.specs.Basics.{listTo}
 use Rattle.ledger.specs.RecordNumbers.{recordAt}
 use Rattle.file.specs.Lines.{longestLine, Written}
 use Rattle.file.specs.Program.{recordLines}
-use Rattle.file.proofs.PlacedLaws.{placed-length}
 use Rattle.runner.proofs.TextLaws.{written-long, no-lines, line-more, line-fits}
 use native.Mathlib.Omega.{arith}
 use Rattle.runner.proofs.texts.put_records.Statement.{statement}

@@ -8,8 +8,6 @@ use native.Mathlib.Omega.{arith}
 use borrow.Author.Needs.{needs}
 use Rattle.settlement_book.proofs.numbers.copy_front.Statement.{statement}
 use Rattle.settlement_book.proofs.numbers.copy_front.Tie as tie
-use Rattle.settlement_book.proofs.numbers.copy_front.Reads as reads
-use Rattle.settlement_book.proofs.numbers.copy_front.Lts as lts
 
 abbrev Inv-loop : tie.InvT-loop
 Inv-loop part rows₀ i₀ rows i = (i ≤ length part) × (rows ≡ paste rows₀ 0 part i)

@@ -5,8 +5,6 @@ use Rattle.settlement_book.proofs.Lists.{nine-set}
 use borrow.Author.Needs.{needs}
 use Rattle.settlement_book.proofs.numbers.put_book.Statement.{statement}
 use Rattle.settlement_book.proofs.numbers.put_book.Tie as tie
-use Rattle.settlement_book.proofs.numbers.put_book.Reads as reads
-use Rattle.settlement_book.proofs.numbers.put_book.Lts as lts
 
 slice-write-numbers : tie.Need-slice-write-numbers
 slice-write-numbers c = search needs

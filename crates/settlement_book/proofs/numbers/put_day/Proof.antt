@@ -25,8 +25,9 @@ returns-2 c = search needs
 
 returns-3 : tie.Need-returns-3
 returns-3 c =
+    let start : tie.Start = search in
     let e = c .before .before .answer2 .given .1 in
-    (c .number .ensures ∙ sym (ap dayAnswerNumber e), sym (ap (λ x. dayAfter x (c .before .before .before .before .args .day .now)) e))
+    (c .number .ensures ∙ sym (ap dayAnswerNumber e), sym (ap (λ x. dayAfter x (start .args .day .now)) e))
 
 pub put-day-spec : {M : Type 1} → statement M
 put-day-spec =

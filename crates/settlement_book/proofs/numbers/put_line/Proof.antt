@@ -46,8 +46,9 @@ returns c =
 returns-2 : tie.Need-returns-2
 unfolding lineRefused
 returns-2 c =
+    let start : tie.Start = search in
     let e = c .before .before .answer2 .given .1 in
-    (c .number .ensures ∙ sym (ap (λ x. lineResult x .number) e), sym (ap (λ x. lineAfter x (c .before .before .before .before .args .line .now)) e))
+    (c .number .ensures ∙ sym (ap (λ x. lineResult x .number) e), sym (ap (λ x. lineAfter x (start .args .line .now)) e))
 
 pub put-line-spec : {M : Type 1} → statement M
 put-line-spec =

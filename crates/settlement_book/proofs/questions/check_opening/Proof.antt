@@ -1,14 +1,12 @@
 -- Questions 2, 3 and 4 in order; each finds what those before it passed.
 use mathlib.Core.Path.{_≡_, sym, _∙_}
-use mathlib.Core.Bool.{Bool, true}
 use Rattle.rules.specs.World.{World}
-use Rattle.rules.specs.WellFormed.{withinLimits, rowsFit, question2, question3, question4}
+use Rattle.rules.specs.WellFormed.{withinLimits, rowsFit, question2, question4}
 use Rattle.rules.specs.Effects.{ask}
 use Rattle.rules.specs.Opening.{openingAnswer}
 use Rattle.rules.specs.Lent.{Lists, worldIn, openingIn, tablesIn, lendElements, nothing}
 use Rattle.rules.proofs.Tests.{two-are, both}
 use Rattle.rules.proofs.Parts.{lengths-asked}
-use Rattle.settlement_book.specs.Lengths.{lengthsOf}
 use Rattle.settlement_book.proofs.Measures.{limits-any}
 use borrow.Author.Needs.{needs}
 use Rattle.settlement_book.proofs.questions.check_opening.Statement.{statement}

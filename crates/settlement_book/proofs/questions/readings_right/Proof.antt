@@ -36,14 +36,15 @@ loop-less : tie.Need-loop-less Inv-loop μ-loop
 loop-less c = search needs
 
 loop-again : tie.Need-loop-again Inv-loop μ-loop
-loop-again c = let s = c .before .before .before .before in (
+loop-again c = let s : tie.Start Inv-loop μ-loop = search in (
   omega arith,
   one-more (λ k. leb (getD (s .args .readings .now) k 0) 9999999) (c .before .before .before .loop .i)
       (c .before .before .before .loop .inv .1) (le-leb _ _ (c .if1 .taken)),
 )
 
 returns : tie.Need-returns Inv-loop μ-loop
-returns c = let s = c .before .before .before .before in
+returns c =
+    let s : tie.Start Inv-loop μ-loop = search in
     sym (in-not (λ x. leb x 9999999) (s .args .readings .now) (c .before .before .before .loop .i) (omega arith) (lt-leb _ _ (c .if1 .left)))
 
 returns-2 : tie.Need-returns-2 Inv-loop μ-loop
