@@ -62,7 +62,7 @@ refused : (h : History) → after h none ≡ h
 unfolding after stepBy heardBody writtenBy
 refused h = rw (append-nil (h .records))
 
-advance-snoc : (h : History) (vs : List Event) (v : Event) → advanceAll h (vs ++ (v ∷ [])) ≡ advance (advanceAll h vs) v
+pub advance-snoc : (h : History) (vs : List Event) (v : Event) → advanceAll h (vs ++ (v ∷ [])) ≡ advance (advanceAll h vs) v
 unfolding advanceAll
 advance-snoc h [] v = refl
 advance-snoc h (u ∷ us) v = advance-snoc (advance h u) us v
