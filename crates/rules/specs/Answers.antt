@@ -4,7 +4,10 @@ use mathlib.Core.Path.{_≡_}
 use mathlib.Core.Option.{Option, none, some}
 use Rattle.rules.specs.declared.Book.{Book}
 use Rattle.rules.specs.declared.Answer.{Answer}
-use Rattle.rules.specs.declared.Answer.the-variants.{Accepted, BrokenField, OutOfLimits, WrongLength, WrongElement, IllFormed, OutOfRange, UnknownPoint, UnknownElement, NotPermitted, OutOfTime, NotExisting, Closed, AlreadyLinked, NothingToStop, NoSuchQuantity, OutsideMonth, TableFull, ListFull}
+use Rattle.rules.specs.declared.Answer.the-variants.{Accepted, BrokenField, OutOfLimits, WrongLength, WrongElement, IllFormed}
+use Rattle.rules.specs.declared.Answer.the-variants.{OutOfRange, UnknownPoint, UnknownElement, NotPermitted, OutOfTime}
+use Rattle.rules.specs.declared.Answer.the-variants.{NotExisting, Closed, AlreadyLinked, NothingToStop, NoSuchQuantity}
+use Rattle.rules.specs.declared.Answer.the-variants.{OutsideMonth, TableFull, ListFull}
 use Rattle.rules.specs.declared.Opened.{Opened}
 use Rattle.rules.specs.declared.LineAnswer.{LineAnswer}
 use Rattle.rules.specs.declared.DayAnswer.{DayAnswer}

@@ -9,7 +9,8 @@ use lib.Dec.{T, eqb, leb, ltb}
 use Rattle.rules.specs.Basics.{within, anyTo}
 use Rattle.rules.specs.Rows.{pairRows}
 use Rattle.rules.specs.Lines.{Measure}
-use Rattle.rules.specs.World.{Opening, Tables, World, rowsOf, holderOn, stateOn, countingState, linkedOn, lineAt, amountOf, kronerOf, billionthsOf}
+use Rattle.rules.specs.World.{Opening, Tables, World, rowsOf, holderOn, stateOn, countingState, linkedOn}
+use Rattle.rules.specs.World.{lineAt, amountOf, kronerOf, billionthsOf}
 use Rattle.rules.specs.Questions.{question16}
 use Rattle.rules.specs.Effects.{ask, askBook}
 
