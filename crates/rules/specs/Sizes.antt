@@ -1,7 +1,6 @@
 -- The limits and sizes of document 01, each named once.
 use Prim.Native.Nat.{ℕ, _*_}
 use Rattle.calendar.specs.Gregorian.{yearMonths}
-
 -- "Is the month within 2000 to 2099": the calendar's years and months
 pub use Rattle.calendar.specs.Gregorian.{firstYear, lastYear}
 
