@@ -26,7 +26,7 @@ use Rattle.rules.specs.Opening.{openingAnswer, opened}
 use Rattle.rules.specs.Queries.{lineQuery, lineNamed, named}
 use Rattle.rules.specs.Fresh.{Fresh, heard, heardBody, hear, freshFacts}
 use Rattle.rules.specs.Claim.{Event, History, advance, advanceAll, begin, total, Holds, reachedLimit, Kept, Demand3}
-use Rattle.rules.proofs.Tests.{cases, both, is-T}
+use Rattle.rules.proofs.Tests.{cases, both}
 use Rattle.rules.proofs.Ranges.{all-at, latest-high}
 use Rattle.rules.proofs.ValuesRight.{recorded-high}
 use Rattle.rules.proofs.LineLaws.{line-cong, line-but, pointLine-none, lines-total}

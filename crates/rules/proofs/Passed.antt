@@ -15,7 +15,7 @@ use Rattle.rules.specs.declared.Body.the-variants.{Link, Stop, Quantity,
 use Rattle.rules.specs.declared.Message.{Message}
 use Rattle.rules.specs.Basics.{within, when, asked}
 use Rattle.rules.specs.World.{Opening, Tables, World, rowsOf, kindOf, isTariff, linkedOn, monthFirst, monthDays}
-use Rattle.rules.specs.WellFormed.{withinLimits, rowsFit, openingSized, tablesSized, tablesRight, question2, question3, question4, question5}
+use Rattle.rules.specs.WellFormed.{question2, question3, question4, question5}
 use Rattle.rules.specs.Messages.{isDay, noHour, noElement, isQuantity, senderOf, bodyOf, both as bothOf, understood, bodyIn}
 use Rattle.rules.specs.Questions.{pointOf, placeOf, tariffOnce, question7, question8, question9, question10, question11, question12, question13, question15, question16, ownNumber, ownQuestion}
 use Rattle.rules.specs.Effects.{ask, question17, question18, answerTo, askBook, answer, accepted, written, writtenBy, recordsOf}

@@ -1,5 +1,5 @@
 -- What an accepted message does, the questions that look at the result (17, 18), the answer, and the step.
-use Prim.Native.Nat.{ℕ, zero, suc, _+_, _*_, _/_, _%_, min}
+use Prim.Native.Nat.{ℕ, zero, suc, _+_, _/_, _%_, min}
 use mathlib.Core.Bool.{Bool, true, false, _&&_, cond}
 use mathlib.Core.List.{List, [], _∷_, _++_}
 use mathlib.Core.Option.{Option, none, some}
@@ -15,7 +15,7 @@ use Rattle.rules.specs.Basics.{listTo}
 use Rattle.rules.specs.Rows.{packPeriod, nextStart, insertRow, stopRows, splitRows, packValue, recordRow}
 use Rattle.rules.specs.Sizes.{holderSize, stateSize, lineSize, lastRound}
 use Rattle.rules.specs.Lines.{Measure, fee, line}
-use Rattle.rules.specs.World.{Opening, Table, Tables, Position, Sent, World, rowsOf, tableOf, kindOf, termsOf, factsOf}
+use Rattle.rules.specs.World.{Opening, Tables, Sent, World, rowsOf, tableOf, kindOf, termsOf, factsOf}
 use Rattle.rules.specs.World.{readingAt, lineCount, kronerOf, billionthsOf, stored}
 use Rattle.rules.specs.WellFormed.{rowsFit, linePlaces, linesRight, question2, question3, question4, question5}
 use Rattle.rules.specs.Messages.{understood, bodyIn}

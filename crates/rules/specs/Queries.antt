@@ -5,7 +5,7 @@ use mathlib.Core.Bool.{Bool, false, _&&_, cond}
 use mathlib.Core.List.{List, []}
 use lib.IntN.{ℤ, pos, natAbs}
 use lib.ListN.{getD}
-use lib.Dec.{T, eqb, leb, ltb}
+use lib.Dec.{T, eqb, ltb}
 use Rattle.rules.specs.Basics.{within, anyTo}
 use Rattle.rules.specs.Rows.{pairRows}
 use Rattle.rules.specs.Lines.{Measure}
