@@ -1,4 +1,4 @@
--- `intake::joined` meets its contract: by cases on the sender and the body.
+-- `validation::joined` meets its contract: by cases on the sender and the body.
 use Rattle.rules.specs.Messages.{both}
 use borrow.Author.Needs.{needs}
 use Rattle.validation.proofs.fields.joined.Statement.{statement}

@@ -1,4 +1,4 @@
--- `intake::understand` meets its contract: question 6 of the received day, then of the sender and the body.
+-- `validation::understand` meets its contract: question 6 of the received day, then of the sender and the body.
 use mathlib.Core.Path.{sym, _∙_}
 use Rattle.rules.specs.Messages.{understood}
 use borrow.Author.Needs.{needs}
