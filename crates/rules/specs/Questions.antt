@@ -76,7 +76,8 @@ unfoldable pub mayLink : Opening → Tables → Sender → Place → Bool
 mayLink o t GridCompany l = eqb (ownerOf o (l .element)) gridCompany || (marked o tax (l .element) && blocked t (l .point))
 mayLink o t Energinet l = eqb (ownerOf o (l .element)) energinet
 mayLink o t (Supplier s) l =
-    eqb (ownerOf o (l .element)) energinet && (isTariff o (l .element) && (not (blocked t (l .point)) && eqb (holderOn t (l .point) (l .day)) s))
+    eqb (ownerOf o (l .element)) energinet
+    && (isTariff o (l .element) && (not (blocked t (l .point)) && eqb (holderOn t (l .point) (l .day)) s))
 
 -- "Kinds 5 to 7: the grid company. Kinds 4 and 8: Energinet."
 unfoldable pub maySend : Sender → Body → Bool

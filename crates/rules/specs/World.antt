@@ -125,7 +125,7 @@ ownerOf o e = getD (o .elementData) (e * elementSize + 1) 0
 unfoldable pub marksOf : Opening → (element : ℕ) → ℕ
 marksOf o e = getD (o .elementData) (e * elementSize + 2) 0
 
--- "an owner (1 grid company, 2 Energinet)"
+-- the two owners of elements
 abbrev pub gridCompany : ℕ
 gridCompany = 1
 
@@ -181,6 +181,7 @@ holderOn t p d = latest (recordedOn holderSize (rowsOf (t .holders)) p) d
 unfoldable pub stateOn : Tables → (point day : ℕ) → ℕ
 stateOn t p d = latest (recordedOn stateSize (rowsOf (t .states)) p) d
 
+-- these states
 abbrev pub notExisting : ℕ
 notExisting = 0
 

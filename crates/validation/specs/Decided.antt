@@ -59,7 +59,8 @@ orNext first next = cond (eqb first 0) next first
 unfoldable pub linkRight : Sender → (owner kind marks block holder : ℕ) → Bool
 linkRight Sender.GridCompany owner kind marks block holder = eqb owner gridCompany || (eqb (marks / tax % 2) 1 && eqb block 1)
 linkRight Sender.Energinet owner kind marks block holder = eqb owner energinet
-linkRight (Sender.Supplier s) owner kind marks block holder = eqb owner energinet && (eqb kind tariff && (not (eqb block 1) && eqb holder s))
+linkRight (Sender.Supplier s) owner kind marks block holder =
+    eqb owner energinet && (eqb kind tariff && (not (eqb block 1) && eqb holder s))
 
 -- the first row starts before the day, and the last ends after it
 unfoldable pub spansDay : (day : ℕ) → (rows : List ℕ) → Bool
