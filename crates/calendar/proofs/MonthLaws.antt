@@ -34,9 +34,6 @@ first-grows n (suc k) = rw add-suc (omega (arith, first-grows n k, days-range (2
 grows-to : (m n : ℕ) → m ≤ n → firstOf m + (n - m) * 28 ≤ firstOf n
 grows-to m n h = let e : m + (n - m) ≡ n = omega arith in omega (arith, first-grows m (n - m), ap firstOf e)
 
-pub first-increases : (m n : ℕ) → m < n → firstOf m < firstOf n
-first-increases m n h = omega (arith, grows-to m n (omega arith))
-
 pub first-ordered : (m n : ℕ) → m ≤ n → firstOf m ≤ firstOf n
 first-ordered m n h = omega (arith, grows-to m n h)
 

@@ -1,11 +1,15 @@
 // The months of the years 2000 to 2099 as days: day 0 is 1 January 2000, and day 36,524 is 31 December 2099.
 ghost use mathlib.Core.Path.{_≡_};
 ghost use Prim.Native.Nat.{_≤_, _<_};
-ghost use Rattle.calendar.specs.Gregorian.{firstYear, lastYear, listedMonths, isLeap, hasThirty, daysOfMonth, firstOf, firstDay, monthNumber, InRange};
+ghost use Rattle.calendar.specs.Gregorian.{firstYear, lastYear, listedMonths, monthNumber, InRange};
+ghost use Rattle.calendar.specs.Gregorian.{isLeap, hasThirty, daysOfMonth, firstOf, firstDay};
 
-const FIRST_YEAR: u64 = 2000;
+// The years that are spoken of, and the months of a year.
+pub const FIRST_YEAR: u64 = 2000;
 
-const YEAR_MONTHS: u64 = 12;
+pub const LAST_YEAR: u64 = 2099;
+
+pub const YEAR_MONTHS: u64 = 12;
 
 // The first days of the 1,200 months, and behind them the day after the last.
 const FIRST_DAYS: [u64; 1201] = [

@@ -2,7 +2,6 @@
 use Prim.Native.Nat.{ℕ, _≤_}
 use native.Mathlib.Nat.{mul-le-mul}
 use native.Mathlib.Omega.{arith}
-use Rattle.calendar.specs.Gregorian.{daysOfMonth}
 use Rattle.calendar.proofs.MonthLaws.{days-range}
 use Rattle.rules.specs.declared.Book.{Book}
 use Rattle.rules.specs.World.{readingAt, monthFirst, monthDays}

@@ -1,7 +1,7 @@
 // What the tables say of a point on a day: its holder, its state, who pays, up to which day a new link runs, and where the reading of an
 // hour stands.
 ghost use mathlib.Core.Path.{_≡_};
-ghost use Prim.Native.Nat.{_≤_, _<_};
+ghost use Prim.Native.Nat.{_<_};
 ghost use Rattle.rules.specs.Sizes.{mostPoints, endOfDays, holderSize, stateSize};
 ghost use Rattle.rules.specs.World.{countingState, holderOn, stateOn, readingAt};
 ghost use Rattle.rules.specs.Lent.{Lists, openingIn, tablesIn, lendData, lendLinks, lendHolders, lendStates, was};

@@ -16,6 +16,10 @@ wordRoom = 18446744073709551616
 abbrev pub positiveRoom : ℕ
 positiveRoom = 9223372036854775808
 
+-- the bytes of 64 bits
+abbrev pub wordBytes : ℕ
+wordBytes = 8
+
 -- a number with further bytes behind it
 unfoldable pub followed : (n : ℕ) → (bytes : List ℕ) → ℕ
 followed n [] = n

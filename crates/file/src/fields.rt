@@ -8,8 +8,9 @@ use rules::PRICE_PLACES;
 ghost use mathlib.Core.Path.{_≡_};
 ghost use Prim.Native.Nat.{_+_, _≤_, _<_};
 ghost use lib.ListN.{length, take, drop};
-ghost use Rattle.file.specs.Bytes.{numberIn, twosComplement, placed};
-ghost use Rattle.file.specs.Field.{monthSize, messageSize, tagAllowed, elementLength, lengthDue, headerRight, cutOff, monthIn, messageFields, fieldNamed, RightField, fieldIn, fieldFrom};
+ghost use Rattle.file.specs.Bytes.{wordBytes, numberIn, twosComplement, placed};
+ghost use Rattle.file.specs.Field.{monthSize, messageSize, tagAllowed, elementLength, lengthDue, headerRight, cutOff};
+ghost use Rattle.file.specs.Field.{monthIn, messageFields, fieldNamed, RightField, fieldIn, fieldFrom};
 ghost use Rattle.file.specs.Element.{priceAt, pricesOf, elementBytes, elementPrices, ElementRoom};
 ghost use Rattle.rules.specs.Lent.{left, was};
 ghost use Rattle.rules.specs.Sizes.{pricePlaces};
@@ -54,7 +55,7 @@ const LAST_NUMBER: u64 = 18446744073709551615;
 
 // The number in the n bytes from a place on; 64 bits have room for eight.
 pub fn number_at(s: &[u8], at: usize, n: usize) -> u64
-    requires { ⌜ (n ≤ 8) × (at + n ≤ length (now s)) ⌝ }
+    requires { ⌜ (n ≤ wordBytes) × (at + n ≤ length (now s)) ⌝ }
     ensures { λ r. ⌜ r ≡ numberIn (was s) at n ⌝ }
 {
     let mut value: u64 = 0;

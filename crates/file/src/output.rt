@@ -8,7 +8,8 @@ ghost use Prim.Native.Nat.{_+_, _≤_, _<_};
 ghost use lib.IntN.{natAbs};
 ghost use lib.ListN.{length};
 ghost use Rattle.file.specs.Decimal.{decimal};
-ghost use Rattle.file.specs.Lines.{numberThen, signedThen, bookLine, recordNames, recordLine, refusedLine, numberWidth, signedWidth, namesWidth, longestLine, Written};
+ghost use Rattle.file.specs.Lines.{numberThen, signedThen, bookLine, recordNames, recordLine, refusedLine};
+ghost use Rattle.file.specs.Lines.{numberWidth, signedWidth, namesWidth, longestLine, Written};
 ghost use Rattle.rules.specs.Lent.{left, was};
 
 // ---- bytes put into a list

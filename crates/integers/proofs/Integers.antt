@@ -151,11 +151,6 @@ pub sign-abs : (z : ℤ) (n : ℕ) → natAbs (withSign z n) ≡ n
 sign-abs (pos m) n = refl
 sign-abs (negsuc m) n = neg-abs (pos n)
 
--- a number has its own magnitude and sign
-pub sign-own : (z : ℤ) → withSign z (natAbs z) ≡ z
-sign-own (pos n) = refl
-sign-own (negsuc n) = refl
-
 pub sign-below : (z : ℤ) (n : ℕ) → ltZ z (pos 0) ≡ true → negℤ (pos n) ≡ withSign z n
 sign-below (pos m) n e = let h : m < 0 = ltb-true m 0 e in absurd (omega arith)
 sign-below (negsuc m) n e = refl

@@ -9,7 +9,7 @@
 use mathlib.Core.Path.{_≡_, refl, ap, _∙_}
 use Prim.Native.Nat.{ℕ, suc, _+_, _*_}
 use native.Mathlib.Omega.{arith}
-use lib.IntN.{ℤ, pos, negsuc, negℤ, _+ℤ_, _-ℤ_, _*ℤ_, *ℤ-comm, *ℤ-negsuc, +ℤ-assoc, +ℤ-comm, +ℤ-idl, +ℤ-idr, +ℤ-invl, +ℤ-invr, negℤ-+ℤ, negℤ-negℤ}
+use lib.IntN.{ℤ, pos, negsuc, negℤ, _+ℤ_, _-ℤ_, _*ℤ_, *ℤ-negsuc}
 use Rattle.integers.proofs.Integers.{posPart, negPart, equal-by-parts, add-parts, neg-pos, neg-neg}
 
 infixl 6 _⊕_ _⊝_
@@ -80,56 +80,9 @@ add-mul a b (negsuc k) =
     rw (*ℤ-negsuc (a +ℤ b) k, *ℤ-negsuc a k, *ℤ-negsuc b k)
     (lin (⊖ ((# a ⊕ # b) ⊙ suc k)) (⊖ (# a ⊙ suc k) ⊕ ⊖ (# b ⊙ suc k)) (omega arith))
 
-pub mul-add : (y a b : ℤ) → y *ℤ (a +ℤ b) ≡ y *ℤ a +ℤ y *ℤ b
-mul-add y a b = *ℤ-comm y (a +ℤ b) ∙ add-mul a b y ∙ cc (*ℤ-comm a y, *ℤ-comm b y)
-
-pub scale-scale : (a : ℤ) (m n : ℕ) → a *ℤ pos m *ℤ pos n ≡ a *ℤ pos (m * n)
-scale-scale a m n = lin (# a ⊙ m ⊙ n) (# a ⊙ (m * n)) (omega arith)
-
 -- rearrangements that come up as they stand
-pub exchange : (a b c d : ℤ) → (a +ℤ b) +ℤ (c +ℤ d) ≡ (a +ℤ c) +ℤ (b +ℤ d)
-exchange a b c d = lin (# a ⊕ # b ⊕ (# c ⊕ # d)) (# a ⊕ # c ⊕ (# b ⊕ # d)) (omega arith)
-
 pub back-again : (a b : ℤ) → a +ℤ (b -ℤ a) ≡ b
 back-again a b = lin (# a ⊕ (# b ⊝ # a)) (# b) (omega arith)
 
 pub less-itself : (a : ℤ) → a -ℤ a ≡ pos 0
 less-itself a = lin (# a ⊝ # a) (nat 0) (omega arith)
-
--- the same without writing the numbers once more, where both sides are sums and negations of the same terms: `simp group`
-pub left-comm : (a b c : ℤ) → a +ℤ (b +ℤ c) ≡ b +ℤ (a +ℤ c)
-left-comm a b c = lin (# a ⊕ (# b ⊕ # c)) (# b ⊕ (# a ⊕ # c)) (omega arith)
-
-pub cancel : (a b : ℤ) → a +ℤ (negℤ a +ℤ b) ≡ b
-cancel a b = lin (# a ⊕ (⊖ (# a) ⊕ # b)) (# b) (omega arith)
-
-pub cancel-neg : (a b : ℤ) → negℤ a +ℤ (a +ℤ b) ≡ b
-cancel-neg a b = lin (⊖ (# a) ⊕ (# a ⊕ # b)) (# b) (omega arith)
-
-pub cancel-far : (a b : ℤ) → a +ℤ (b +ℤ negℤ a) ≡ b
-cancel-far a b = lin (# a ⊕ (# b ⊕ ⊖ (# a))) (# b) (omega arith)
-
-pub cancel-neg-far : (a b : ℤ) → negℤ a +ℤ (b +ℤ a) ≡ b
-cancel-neg-far a b = lin (⊖ (# a) ⊕ (# b ⊕ # a)) (# b) (omega arith)
-
-pub ruleset regroup = (+ℤ-assoc, +ℤ-comm, left-comm)
-
-pub minus : (a b : ℤ) → a -ℤ b ≡ a +ℤ negℤ b
-minus a b = refl
-
-pub ruleset group = (
-  minus,
-  +ℤ-assoc,
-  +ℤ-comm,
-  left-comm,
-  negℤ-+ℤ,
-  negℤ-negℤ,
-  +ℤ-idl,
-  +ℤ-idr,
-  +ℤ-invl,
-  +ℤ-invr,
-  cancel,
-  cancel-neg,
-  cancel-far,
-  cancel-neg-far,
-)

@@ -2,12 +2,11 @@
 use mathlib.Core.Path.{_≡_, refl, sym, ap, _∙_}
 use Prim.Native.Nat.{ℕ, zero, suc, _+_, _*_, _≤_, _<_}
 use native.Mathlib.Decide.{ℕ-discrete}
-use native.Mathlib.Nat.{add-zero, add-suc}
 use native.Mathlib.Numerals.{add-one}
 use native.Mathlib.Omega.{arith}
-use lib.IntN.{ℤ, pos, natAbs, negℤ, _+ℤ_, _-ℤ_, _*ℤ_}
+use lib.IntN.{ℤ, pos, natAbs, negℤ, _+ℤ_, _-ℤ_}
 use Rattle.integers.proofs.Integers.{add-abs}
-use Rattle.integers.proofs.Linear.{lin, #, nat, _⊕_, _⊝_, ⊖, _⊙_}
+use Rattle.integers.proofs.Linear.{lin, #, nat, _⊕_, _⊝_, ⊖}
 use Rattle.integers.specs.Sums.{sumTo}
 
 pub sum-none : (f : ℕ → ℤ) → sumTo f 0 ≡ pos 0
@@ -48,23 +47,10 @@ sum-neg f (suc n) = rw (sum-neg f n) (lin (⊖ (# (sumTo f n)) ⊕ ⊖ (# (f n))
 pub sum-sub : (f g : ℕ → ℤ) (n : ℕ) → sumTo (λ i. f i -ℤ g i) n ≡ sumTo f n -ℤ sumTo g n
 sum-sub f g n = sum-add f (λ i. negℤ (g i)) n ∙ ap (λ x. sumTo f n +ℤ x) (sum-neg g n)
 
-pub sum-times : (f : ℕ → ℤ) (k n : ℕ) → sumTo (λ i. f i *ℤ pos k) n ≡ sumTo f n *ℤ pos k
-unfolding sumTo
-sum-times f k zero = lin (nat 0) (nat 0 ⊙ k) (omega arith)
-sum-times f k (suc n) =
-    rw (sum-times f k n) (lin (# (sumTo f n) ⊙ k ⊕ # (f n) ⊙ k) ((# (sumTo f n) ⊕ # (f n)) ⊙ k) (omega arith))
-
 pub sum-swap : (f : ℕ → ℕ → ℤ) (n m : ℕ) → sumTo (λ i. sumTo (f i) m) n ≡ sumTo (λ j. sumTo (λ i. f i j) n) m
 unfolding sumTo
 sum-swap f zero m = sym (sum-zeros m)
 sum-swap f (suc n) m = rw (sum-swap f n m) (sym (sum-add (λ j. sumTo (λ i. f i j) n) (f n) m))
-
-pub sum-split : (f : ℕ → ℤ) (m n : ℕ) → sumTo f (m + n) ≡ sumTo f m +ℤ sumTo (λ i. f (m + i)) n
-unfolding sumTo
-sum-split f m zero = rw add-zero (lin (# (sumTo f m)) (# (sumTo f m) ⊕ nat 0) (omega arith))
-sum-split f m (suc n) =
-    let s = sumTo (λ i. f (m + i)) n in
-    rw (add-suc, sum-split f m n) (lin (# (sumTo f m) ⊕ # s ⊕ # (f (m + n))) (# (sumTo f m) ⊕ (# s ⊕ # (f (m + n)))) (omega arith))
 
 -- terms that change at the one index p
 pub sum-at : (f g : ℕ → ℤ) (p n : ℕ) → p < n → ((i : ℕ) → i < n → (i ≡ p → ⊥) → g i ≡ f i) → sumTo g n ≡ sumTo f n +ℤ (g p -ℤ f p)

@@ -1,9 +1,8 @@
 -- Records as numbers: six a record, in the order of its fields, at the front of a lent list of numbers.
 use mathlib.Core.Path.{_≡_, refl, sym, ap, ap₂, subst, _∙_}
 use mathlib.Core.List.{List, [], _∷_, _++_, append-assoc, append-nil}
-use Prim.Native.Nat.{ℕ, zero, suc, _+_, _-_, _*_, _≤_, _<_}
+use Prim.Native.Nat.{ℕ, zero, suc, _+_, _*_, _≤_, _<_}
 use native.Mathlib.Omega.{arith}
-use native.Mathlib.Numerals.{add-one}
 use lib.IntN.{ℤ, pos}
 use lib.ListN.{length, getD, set, take, drop, length-append, length-drop}
 use lib.Seq.{ext-getD, sets, sets-eq, take-at, drop-append-add, drop-drop}
@@ -60,13 +59,6 @@ six-stores xs at a b c d e f =
     let p4 : at + 4 ≡ suc (suc (suc (suc at))) = omega arith in
     let p5 : at + 5 ≡ suc (suc (suc (suc (suc at)))) = omega arith in
     λ i. set (set (set (set (set (set xs at a) (p1 i) b) (p2 i) c) (p3 i) d) (p4 i) e) (p5 i) f
-
--- one record more of a list by number
-pub numbers-step : (f : ℕ → Record) (i : ℕ) (lent out out′ : List ℤ) (r : Record) → out ≡ numbersAfter (listTo f i) lent → out′ ≡ sets out (i * 6) (recordNumbers r) → r ≡ f i → i * 6 + 5 < length lent
-    → out′ ≡ numbersAfter (listTo f (i + 1)) lent
-unfolding listTo
-numbers-step f i lent out out′ r p q e h =
-    q ∙ ap₂ (λ (x : List ℤ) (y : Record). sets x (i * 6) (recordNumbers y)) p e ∙ numbers-put (listTo f i) (f i) lent i (length-listTo f i) h ∙ ap (λ (n : ℕ). numbersAfter (listTo f n) lent) (sym (add-one i))
 
 -- ---- records that stand as numbers are read as they were written
 

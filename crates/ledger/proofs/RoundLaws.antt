@@ -1,28 +1,26 @@
 -- A round by the tables alone: a line is what was sent exactly where its three numbers are, since an amount has one form; the records are the
 -- rules', in their order; and what was sent is the lines, three numbers at a time.
 use mathlib.Core.Path.{_≡_, refl, sym, ap, ap₂, _∙_}
-use mathlib.Core.Bool.{Bool, true, false, _&&_, cond}
+use mathlib.Core.Bool.{Bool, true, false, cond}
 use mathlib.Core.List.{List, [], _∷_, _++_, append-nil}
 use Prim.Native.Nat.{ℕ, zero, suc, _+_, _-_, _*_, _/_, _%_, _≤_, _<_, min}
 use native.Mathlib.Omega.{arith}
 use native.Mathlib.Numerals.{add-one}
-use native.Mathlib.Nat.{add-zero, zero-add, mul-le-mul-right}
-use lib.IntN.{ℤ, pos, negsuc, natAbs, _+ℤ_, _-ℤ_}
+use native.Mathlib.Nat.{add-zero, zero-add}
+use lib.IntN.{ℤ, pos, negsuc, natAbs, _-ℤ_}
 use lib.ListN.{length, getD, set, drop, take, length-append, drop-of-length-le}
 use lib.Seq.{sets, set-getD, paste, paste-suc, length-paste, take-length, getD-drop, getD-append-add, length-take-le}
 use lib.Signed.{pos-natAbs}
-use lib.Dec.{leb, eqb}
-use borrow.Author.Tests.{eqb-true, eq-eqb}
-use Rattle.integers.proofs.Linear.{lin, read, #, nat, _⊕_, _⊝_}
+use lib.Dec.{eqb}
+use borrow.Author.Tests.{eqb-true}
+use Rattle.integers.proofs.Linear.{lin, read, #, nat, _⊝_}
 use Rattle.rules.specs.declared.Book.{Book}
 use Rattle.rules.specs.declared.Body.{Body}
 use Rattle.rules.specs.declared.Body.the-variants.{Round}
-use Rattle.rules.specs.declared.Record.{Record}
-use Rattle.rules.specs.Basics.{within, allTo}
 use Rattle.rules.specs.Lines.{Measure}
 use Rattle.rules.specs.World.{World, lineCount, kronerOf, billionthsOf, storedAt, stored}
 use Rattle.rules.specs.Lent.{Lists, worldIn, lendMoney}
-use Rattle.rules.specs.WellFormed.{withinLimits, openingSized, tablesSized, linePlaces, linesSized, tablesRight, lineRight, linesRight, question2, question3, question5}
+use Rattle.rules.specs.WellFormed.{linePlaces, lineRight, linesRight}
 use Rattle.rules.specs.Whole.{Whole}
 use Rattle.rules.specs.Effects.{supplierOf, elementOf, difference, unmoved, recordOf, recordFor, recordsTo, records, isRound, written, sentAfter}
 use Rattle.rules.proofs.Tests.{cases, both}

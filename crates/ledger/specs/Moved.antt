@@ -9,7 +9,7 @@ use lib.Seq.{sets}
 use lib.Dec.{eqb}
 use Rattle.rules.specs.declared.Book.{Book}
 use Rattle.rules.specs.declared.Record.{Record}
-use Rattle.rules.specs.Sizes.{mostSuppliers, mostElements, lineSize, recordSize}
+use Rattle.rules.specs.Sizes.{mostSuppliers, mostElements, lineSize, recordSize, lastRound}
 use Rattle.rules.specs.Basics.{allTo}
 use Rattle.rules.specs.Lines.{Measure}
 use Rattle.rules.specs.World.{kronerOf, billionthsOf, storedAt}
@@ -69,7 +69,7 @@ pub record Settled (b : Book) (ls ts : List ℤ) : Type 0 where
   pub suppliers : b .suppliers ≤ mostSuppliers
   pub elements : b .elements ≤ mostElements
   pub round-low : 1 ≤ b .round
-  pub round-high : b .round ≤ 3
+  pub round-high : b .round ≤ lastRound
   pub lines : length ls ≡ linesIn b * lineSize
   pub totals : length ts ≡ linesIn b * lineSize
   pub lines-right : allTo (λ k. lineRight ls (k * lineSize)) (linesIn b) ≡ true
@@ -79,7 +79,7 @@ pub record Settled (b : Book) (ls ts : List ℤ) : Type 0 where
 pub record Sendable (b : Book) (ls ts : List ℤ) (k : ℕ) : Type 0 where
   pub suppliers : b .suppliers ≤ mostSuppliers
   pub elements : b .elements ≤ mostElements
-  pub round-high : b .round ≤ 3
+  pub round-high : b .round ≤ lastRound
   pub below : k < linesIn b
   pub compared : Comparable ls ts (k * lineSize)
 

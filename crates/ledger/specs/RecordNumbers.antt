@@ -40,11 +40,15 @@ pub record RecordPlaces (ns : List ℤ) (i : ℕ) : Type 0 where
   pub element : T (nonNeg (getD ns (i * recordSize + 2) (pos 0)))
   pub billionths : T (nonNeg (getD ns (i * recordSize + 5) (pos 0)))
 
+-- one more than the largest signed number of 64 bits
+abbrev pub signedRoom : ℕ
+signedRoom = 9223372036854775808
+
 -- numbers that fit 63 bits
 pub record SmallRecord (r : Record) : Type 0 where
-  pub kind : r .kind < 9223372036854775808
-  pub supplier : r .supplier < 9223372036854775808
-  pub element : r .element < 9223372036854775808
-  pub quantity : natAbs (r .quantity) < 9223372036854775808
-  pub kroner : natAbs (r .kroner) < 9223372036854775808
-  pub billionths : r .billionths < 9223372036854775808
+  pub kind : r .kind < signedRoom
+  pub supplier : r .supplier < signedRoom
+  pub element : r .element < signedRoom
+  pub quantity : natAbs (r .quantity) < signedRoom
+  pub kroner : natAbs (r .kroner) < signedRoom
+  pub billionths : r .billionths < signedRoom

@@ -4,16 +4,18 @@ ghost use mathlib.Core.Bool.{false, cond};
 ghost use Prim.Native.Nat.{_+_, _*_, _≤_, _<_, min};
 ghost use lib.ListN.{length};
 ghost use lib.Seq.{sets};
-ghost use Rattle.rules.specs.Sizes.{lineSize, mostLines, recordSize};
+ghost use Rattle.rules.specs.Sizes.{lineSize, mostLines, recordSize, lastRound};
 ghost use Rattle.rules.specs.Lines.{Measure};
 ghost use Rattle.rules.specs.Lent.{was, left};
-ghost use Rattle.ledger.specs.Bounds.{LineOf};
+ghost use Rattle.ledger.specs.Bounds.{LineOf, movedQuantity, movedKroner};
 ghost use Rattle.ledger.specs.RecordNumbers.{SmallRecord, recordNumbers, numbersAfter};
-ghost use Rattle.ledger.specs.Moved.{movedBy, unmovedAt, linesIn, lineRecord, lineRecords, movedCount, lineCopied, Comparable, Settled, Sendable, LineSent};
+ghost use Rattle.ledger.specs.Moved.{movedBy, unmovedAt, linesIn, lineRecord, lineRecords, movedCount, lineCopied};
+ghost use Rattle.ledger.specs.Moved.{Comparable, Settled, Sendable, LineSent};
 use crate::lines::Line;
 use crate::lines::line_at;
 use crate::lines::line_difference;
 use rules::Book;
+use rules::LAST_ROUND;
 use rules::LINE_SIZE;
 use rules::RECORD_SIZE;
 use rules::Record;
@@ -61,7 +63,7 @@ fn moved_by(lines: &[i64], sent: &[i64], at: usize) -> Line
     requires { ⌜ Comparable (now lines) (now sent) at ⌝ }
     ensures { λ r. ⌜ LineOf r
         (movedBy (was lines) (was sent) Measure.quantity at) (movedBy (was lines) (was sent) Measure.amount at)
-        20000000000000 2000000000001 ⌝ }
+        movedQuantity movedKroner ⌝ }
 {
     line_difference(line_at(lines, at), line_at(sent, at))
 }
@@ -155,8 +157,12 @@ pub fn send_lines(book: Book, lines: &[i64], sent: &mut [i64], records: &mut [i6
 
 // The kind of the round after one of this kind: 1 fixing, 2 refixing, 3 any later.
 pub fn next_round(round: u64) -> u64
-    requires { ⌜ (1 ≤ round) × (round ≤ 3) ⌝ }
-    ensures { λ r. ⌜ r ≡ min 3 (round + 1) ⌝ }
+    requires { ⌜ (1 ≤ round) × (round ≤ lastRound) ⌝ }
+    ensures { λ r. ⌜ r ≡ min lastRound (round + 1) ⌝ }
 {
-    if round < 3 { round + 1 } else { 3 }
+    if round < LAST_ROUND {
+        round + 1
+    } else {
+        LAST_ROUND
+    }
 }

@@ -6,7 +6,7 @@ use borrow.Author.Tests.{ltb-true, lt-ltb}
 use native.Mathlib.Omega.{arith}
 use Rattle.rules.specs.Basics.{within}
 use Rattle.rules.specs.World.{World, InBook}
-use Rattle.rules.specs.Effects.{ask, askBook}
+use Rattle.rules.specs.Effects.{ask}
 use Rattle.rules.specs.Queries.{lineNumber, periodsNumber, dayNumber}
 use Rattle.rules.proofs.Ranges.{within-low, within-high}
 use Rattle.rules.specs.Whole.{Whole}

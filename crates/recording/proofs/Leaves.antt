@@ -11,7 +11,7 @@ use Rattle.rules.specs.declared.Body.the-variants.{Link, Stop, Quantity, Holder
 use Rattle.rules.proofs.Body.{the-type}
 use Rattle.rules.specs.Rows.{packPeriod, insertRow, stopRows, splitRows, packValue, recordRow}
 use Rattle.rules.specs.Sizes.{holderSize, stateSize}
-use Rattle.rules.specs.World.{Table, Tables, World, rowsOf, readingAt}
+use Rattle.rules.specs.World.{Table, Tables, rowsOf, readingAt}
 use Rattle.rules.specs.Effects.{withLinks, withHolders as tablesWithHolders, withStates as tablesWithStates, withReadings, withBlocks, told}
 use Rattle.rules.specs.Lent.{Lists, worldIn, openingIn, tablesIn, lendLinks, lendHolders, lendStates, lendReadings, lendBlocks}
 use Rattle.tables.specs.Search.{Changed}

@@ -1,8 +1,8 @@
 -- A message that has passed the questions before 17 has fields within their ranges: each number by the question that limits it.
-use Prim.Native.Nat.{ℕ, _+_, _*_, _≤_, _<_}
+use Prim.Native.Nat.{ℕ, _≤_, _<_}
 use mathlib.Core.Path.{_≡_, refl}
 use mathlib.Core.Bool.{true, false≢true}
-use mathlib.Core.List.{List, [], _∷_}
+use mathlib.Core.List.{[], _∷_}
 use mathlib.Core.Option.{some}
 use types.Run.{OneOf, miss}
 use denote.Enum.Declared.{tagOf}

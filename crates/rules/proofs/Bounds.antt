@@ -43,7 +43,7 @@ count-price q x a b h k = rw mul-abs (mul-le-mul h k)
 count-millionths : (q : ℕ) (x : ℤ) (a b n : ℕ) → q ≤ a → natAbs x ≤ b → a * b * 1000 ≤ n → natAbs (pos q *ℤ x *ℤ pos 1000) ≤ n
 count-millionths q x a b n h k l = rw mul-abs (let m : natAbs (pos q *ℤ x) ≤ a * b = count-price q x a b h k in omega arith)
 
-by-kind : (k : ℕ) (a b c : ℤ) (n : ℕ) → natAbs a ≤ n → natAbs b ≤ n → (k ≢ 1 → k ≢ 2 → natAbs c ≤ n) → natAbs (byKind k a b c) ≤ n
+pub by-kind : (k : ℕ) (a b c : ℤ) (n : ℕ) → natAbs a ≤ n → natAbs b ≤ n → (k ≢ 1 → k ≢ 2 → natAbs c ≤ n) → natAbs (byKind k a b c) ≤ n
 unfolding byKind
 by-kind k a b c n ha hb hc = cases (eqb k 1)
     (λ t. rw t ha)

@@ -1,5 +1,5 @@
 -- What a message changes in fresh settlement, and that tables which agree with it give the same facts.
-use mathlib.Core.Path.{_≡_, refl, sym, ap, _∙_}
+use mathlib.Core.Path.{_≡_, refl, sym, ap}
 use Prim.Native.Nat.{ℕ, _+_, _<_}
 use mathlib.Core.Bool.{false}
 use mathlib.Core.Option.{some}
@@ -8,7 +8,6 @@ use native.Mathlib.Omega.{arith}
 use borrow.Author.Tests.{ne-eqb}
 use Rattle.rules.specs.declared.Body.{Body}
 use Rattle.rules.specs.declared.Body.the-variants.{Link, Stop, Quantity, Holder, State, Reading, Block, Round}
-use Rattle.rules.specs.Basics.{latest}
 use Rattle.rules.specs.Lines.{Terms}
 use Rattle.rules.specs.World.{Opening, Tables, hoursOf, termsOf, holderOn, stateOn, countingState, factsOf}
 use Rattle.rules.specs.Questions.{pointOf}

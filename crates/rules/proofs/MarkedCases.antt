@@ -10,7 +10,7 @@ use Rattle.rules.specs.WellFormed.{withinLimits, rowsFit, question2, rea
 use Rattle.rules.specs.Messages.{isDay, senderOf, noHour, noElement, isQuantity, bodyOf, both, understood, bodyIn}
 use Rattle.rules.specs.Questions.{pointOf, placeOf, question7, tariffOnce, question8, blocked, isGridCompany, isEnerginet, mayLink, maySend, question9, inTime, question10, question11, question12, question13, question14, question15, question16, ownQuestion, ownNumber}
 use Rattle.rules.specs.Effects.{withLinks, withHolders, withStates, withReadings, withBlocks, linkEnd, told, supplierOf, elementOf, part, linesOf, movedLine, movedLines, isRound, difference, unmoved, recordOf, recordFor, recordsTo, records, written, sentAfter, tablesAfter, linesAfter, posted, ask, question17, question18, answerTo, askBook, answer, accepted, stepBy, step}
-use Rattle.rules.specs.Cases.{Case, message, after, firstBook, periods, answerAndPeriods, naturals, cases, sameNumber, sameNumbers, holds}
+use Rattle.rules.specs.Cases.{message, after, firstBook, periods, answerAndPeriods, naturals, cases, sameNumber, sameNumbers, holds}
 
 pub cases-hold : T (allIn holds cases)
 unfolding isLeap hasThirty daysOfMonth firstOf firstDay sumTo within allTo anyTo allIn chained listTo when asked orElse latest packPeriod periodPoint periodElement periodFirst periodEnd periodQuantity ofPair covers quantityOn startsOn nextStart insertRow stopRows splitRows packValue valuePoint valueFirst valueOf recordedOn recordRow dayPrice energyOn byKind charge chargedTo owed pointLine line rowsOf tableOf monthFirst monthDays kindOf ownerOf marksOf marked isTariff hoursOf priceOf termsOf holderOn stateOn countingState linkedOn readingAt energyOf factsOf lineCount lineAt kronerOf billionthsOf amountOf storedAt stored withinLimits rowsFit question2 readingCount linePlaces openingSized tablesSized linesSized question3 priceLimit priceSize elementRight question4 periodRight apart valueRight earlier tableRight linksRight holdersRight statesRight tablesRight lineLimit lineRight linesRight question5 isDay senderOf noHour noElement isQuantity bodyOf both understood bodyIn pointOf placeOf question7 tariffOnce question8 blocked isGridCompany isEnerginet mayLink maySend question9 inTime question10 question11 question12 question13 question14 question15 question16 ownQuestion ownNumber withLinks withHolders withStates withReadings withBlocks linkEnd told supplierOf elementOf part linesOf movedLine movedLines isRound difference unmoved recordOf recordFor recordsTo records written sentAfter tablesAfter linesAfter posted ask question17 question18 answerTo askBook answer accepted stepBy step message after firstBook periods answerAndPeriods naturals cases sameNumber sameNumbers holds

@@ -1,10 +1,11 @@
 -- What a message has passed that is accepted, or that only question 17 refuses.
 use Prim.Native.Nat.{ℕ, _+_, _≤_, _<_}
-use mathlib.Core.Path.{_≡_, refl, sym, _∙_, subst}
+use mathlib.Core.Path.{_≡_, refl, sym, ap, _∙_, subst}
 use mathlib.Core.Logic.{_≢_}
 use mathlib.Core.Bool.{Bool, true, false, not, _&&_, _||_, cond}
 use mathlib.Core.Option.{Option, none, some}
 use lib.Dec.{leb, ltb, eqb}
+use lib.ListN.{length}
 use borrow.Author.Tests.{eqb-true, eq-eqb, leb-true, ltb-true, not-true}
 use native.Mathlib.Omega.{arith}
 use Rattle.rules.specs.declared.Fields.{Fields}
@@ -14,10 +15,10 @@ use Rattle.rules.specs.declared.Body.the-variants.{Link, Stop, Quantity,
 use Rattle.rules.specs.declared.Message.{Message}
 use Rattle.rules.specs.Basics.{within, when, asked}
 use Rattle.rules.specs.World.{Opening, Tables, World, rowsOf, kindOf, isTariff, linkedOn, monthFirst, monthDays}
-use Rattle.rules.specs.WellFormed.{withinLimits, rowsFit, openingSized, tablesSized, tablesRight, question2, question3, question4, question5}
+use Rattle.rules.specs.WellFormed.{question2, question3, question4, question5}
 use Rattle.rules.specs.Messages.{isDay, noHour, noElement, isQuantity, senderOf, bodyOf, both as bothOf, understood, bodyIn}
 use Rattle.rules.specs.Questions.{pointOf, placeOf, tariffOnce, question7, question8, question9, question10, question11, question12, question13, question15, question16, ownNumber, ownQuestion}
-use Rattle.rules.specs.Effects.{ask, question17, question18, answerTo, askBook, answer, accepted}
+use Rattle.rules.specs.Effects.{ask, question17, question18, answerTo, askBook, answer, accepted, written, writtenBy, recordsOf}
 use Rattle.rules.proofs.Tests.{tests, cases, both}
 use Rattle.rules.proofs.Ranges.{within-low, within-high}
 use Rattle.rules.specs.Order.{linkedIn}
@@ -277,3 +278,23 @@ taken w f room b e = cases (eqb (answer w f room) 0)
       fits = subst (λ b′. question17 w b′ ≡ true) x (asked-passed (question17 w (c .message .body)) 17 _ 0 (λ k. omega arith) (c .rest) .0);
     })
     (λ t. let e′ : none ≡ some b = rw t at e in let z : _≡_ {A = ℕ} 0 1 = cc in absurd (omega arith))
+
+-- ---- the records of a message fit the list that is lent with it
+
+module _ (w : World) (f : Fields) (room : ℕ) where
+  written-fit : (x : Option Body) → accepted w f room ≡ x → length (writtenBy w x) ≤ room
+  unfolding writtenBy question18
+  written-fit none e = omega arith
+  written-fit (some b) e =
+      let t = taken w f room b e in
+      let k = behind w f room 0 (λ n i j l. omega arith) (t .answered) in
+      let q : some (k .message) ≡ some (t .message) = sym (k .is) ∙ t .is in
+      let m : k .message ≡ t .message = cc in
+      let z : k .message .body ≡ b = ap (λ x. x .body) m ∙ t .body in
+      let p = asked-passed (question17 w (k .message .body)) 17 _ 0 (λ n. omega arith) (k .rest) in
+      let r = asked-passed (question18 w (k .message .body) room) 18 _ 0 (λ n. omega arith) (p .1) in
+      subst (λ (x : Body). length (written w x) ≤ room) z (leb-true _ room (r .0))
+
+  pub records-fit : length (recordsOf w f room) ≤ room
+  unfolding recordsOf
+  records-fit = written-fit (accepted w f room) refl

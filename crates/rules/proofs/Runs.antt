@@ -1,5 +1,5 @@
 -- Periods in order and apart, as one recursion, and what they say of a day.
-use Prim.Native.Nat.{ℕ, _≤_, _<_, _-_}
+use Prim.Native.Nat.{ℕ, _≤_, _<_}
 use mathlib.Core.Path.{_≡_, refl, sym, _∙_}
 use mathlib.Core.Bool.{true, false, not, _&&_, _||_, cond, false≢true, and-false, Bool}
 use mathlib.Core.List.{List, [], _∷_}

@@ -1,10 +1,12 @@
 -- "Each enum answer has a definition that gives this paper's number and values for each of its cases."
 use Prim.Native.Nat.{ℕ}
 use mathlib.Core.Path.{_≡_}
-use mathlib.Core.Option.{Option, none, some}
 use Rattle.rules.specs.declared.Book.{Book}
 use Rattle.rules.specs.declared.Answer.{Answer}
-use Rattle.rules.specs.declared.Answer.the-variants.{Accepted, BrokenField, OutOfLimits, WrongLength, WrongElement, IllFormed, OutOfRange, UnknownPoint, UnknownElement, NotPermitted, OutOfTime, NotExisting, Closed, AlreadyLinked, NothingToStop, NoSuchQuantity, OutsideMonth, TableFull, ListFull}
+use Rattle.rules.specs.declared.Answer.the-variants.{Accepted, BrokenField, OutOfLimits, WrongLength, WrongElement, IllFormed}
+use Rattle.rules.specs.declared.Answer.the-variants.{OutOfRange, UnknownPoint, UnknownElement, NotPermitted, OutOfTime}
+use Rattle.rules.specs.declared.Answer.the-variants.{NotExisting, Closed, AlreadyLinked, NothingToStop, NoSuchQuantity}
+use Rattle.rules.specs.declared.Answer.the-variants.{OutsideMonth, TableFull, ListFull}
 use Rattle.rules.specs.declared.Opened.{Opened}
 use Rattle.rules.specs.declared.LineAnswer.{LineAnswer}
 use Rattle.rules.specs.declared.DayAnswer.{DayAnswer}
@@ -33,14 +35,10 @@ numberOf OutsideMonth = 16
 numberOf TableFull = 17
 numberOf ListFull = 18
 
--- an opening's number, and the book where it has one
+-- an opening's number
 abbrev pub openedNumber : Opened → ℕ
 openedNumber (Opened.Book b) = 0
 openedNumber (Opened.Refused a) = numberOf a
-
-abbrev pub openedBook : Opened → Option Book
-openedBook (Opened.Book b) = some b
-openedBook (Opened.Refused a) = none
 
 -- a line query's number and values
 abbrev pub lineResult : LineAnswer → LineResult

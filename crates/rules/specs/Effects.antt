@@ -1,5 +1,5 @@
 -- What an accepted message does, the questions that look at the result (17, 18), the answer, and the step.
-use Prim.Native.Nat.{ℕ, zero, suc, _+_, _*_, _/_, _%_, min}
+use Prim.Native.Nat.{ℕ, zero, suc, _+_, _/_, _%_, min}
 use mathlib.Core.Bool.{Bool, true, false, _&&_, cond}
 use mathlib.Core.List.{List, [], _∷_, _++_}
 use mathlib.Core.Option.{Option, none, some}
@@ -13,9 +13,10 @@ use Rattle.rules.specs.declared.Message.{Message}
 use Rattle.rules.specs.declared.Record.{Record}
 use Rattle.rules.specs.Basics.{listTo}
 use Rattle.rules.specs.Rows.{packPeriod, nextStart, insertRow, stopRows, splitRows, packValue, recordRow}
-use Rattle.rules.specs.Sizes.{holderSize, stateSize, lineSize}
+use Rattle.rules.specs.Sizes.{holderSize, stateSize, lineSize, lastRound}
 use Rattle.rules.specs.Lines.{Measure, fee, line}
-use Rattle.rules.specs.World.{Opening, Table, Tables, Position, Sent, World, rowsOf, tableOf, kindOf, termsOf, readingAt, factsOf, lineCount, kronerOf, billionthsOf, stored}
+use Rattle.rules.specs.World.{Opening, Tables, Sent, World, rowsOf, tableOf, kindOf, termsOf, factsOf}
+use Rattle.rules.specs.World.{readingAt, lineCount, kronerOf, billionthsOf, stored}
 use Rattle.rules.specs.WellFormed.{rowsFit, linePlaces, linesRight, question2, question3, question4, question5}
 use Rattle.rules.specs.Messages.{understood, bodyIn}
 use Rattle.rules.specs.Questions.{question7, question8, question9, question10, question11, question12, ownNumber, ownQuestion}
@@ -131,7 +132,7 @@ written w b = cond (isRound b) (records w) []
 
 -- "The kind advances even where there is no record."
 unfoldable pub sentAfter : World → Body → Sent
-sentAfter w b = cond (isRound b) (record { totals = w .position .lines; round = min 3 (w .sent .round + 1) }) (w .sent)
+sentAfter w b = cond (isRound b) (record { totals = w .position .lines; round = min lastRound (w .sent .round + 1) }) (w .sent)
 
 -- ---- the world after an accepted message
 

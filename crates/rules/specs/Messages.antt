@@ -11,6 +11,7 @@ use Rattle.rules.specs.declared.Body.the-variants.{Link, Stop, Quantity,
 use Rattle.rules.specs.declared.Message.{Message}
 use Rattle.rules.specs.Basics.{within, when}
 use Rattle.rules.specs.Sizes.{endOfDays, hourPlaces, mostEnergy, mostQuantity}
+use Rattle.rules.specs.World.{newState, closed}
 
 -- "Days 0 to 36,524"
 unfoldable pub isDay : (day : ℕ) → Bool
@@ -43,7 +44,8 @@ bodyOf suppliers f =
     (cond (eqb (f .kind) 3)
     (when (isDay (f .day) && (noHour f && isQuantity (f .value))) (Quantity (f .point) (f .element) (f .day) (f .value)))
     (cond (eqb (f .kind) 4) (when (isDay (f .day) && (noElement f && leb (f .value) suppliers)) (Holder (f .point) (f .day) (f .value)))
-    (cond (eqb (f .kind) 5) (when (isDay (f .day) && (noElement f && within 1 4 (f .value))) (State (f .point) (f .day) (f .value)))
+    (cond (eqb (f .kind) 5)
+    (when (isDay (f .day) && (noElement f && within newState closed (f .value))) (State (f .point) (f .day) (f .value)))
     (cond (eqb (f .kind) 6)
     (when (isDay (f .day) && (eqb (f .element) 0 && (ltb (f .hour) hourPlaces && leb (f .value) mostEnergy)))
     (Reading (f .point) (f .day) (f .hour) (f .value)))

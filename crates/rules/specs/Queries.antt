@@ -5,11 +5,12 @@ use mathlib.Core.Bool.{Bool, false, _&&_, cond}
 use mathlib.Core.List.{List, []}
 use lib.IntN.{ℤ, pos, natAbs}
 use lib.ListN.{getD}
-use lib.Dec.{T, eqb, leb, ltb}
+use lib.Dec.{T, eqb, ltb}
 use Rattle.rules.specs.Basics.{within, anyTo}
 use Rattle.rules.specs.Rows.{pairRows}
 use Rattle.rules.specs.Lines.{Measure}
-use Rattle.rules.specs.World.{Opening, Tables, World, rowsOf, holderOn, stateOn, countingState, linkedOn, lineAt, amountOf, kronerOf, billionthsOf}
+use Rattle.rules.specs.World.{Opening, Tables, World, rowsOf, holderOn, stateOn, countingState, linkedOn}
+use Rattle.rules.specs.World.{lineAt, amountOf, kronerOf, billionthsOf}
 use Rattle.rules.specs.Questions.{question16}
 use Rattle.rules.specs.Effects.{ask, askBook}
 

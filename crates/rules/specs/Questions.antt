@@ -12,7 +12,8 @@ use Rattle.rules.specs.declared.Body.the-variants.{Link, Stop, Quantity,
 use Rattle.rules.specs.declared.Place.{Place}
 use Rattle.rules.specs.Basics.{anyTo, asked}
 use Rattle.rules.specs.Sizes.{endOfDays, daysAhead, gridDaysBack, supplierDaysBack}
-use Rattle.rules.specs.World.{Opening, Tables, ownerOf, marked, tax, isTariff, monthFirst, monthDays, holderOn, stateOn, linkedOn}
+use Rattle.rules.specs.World.{Opening, Tables, ownerOf, marked, tax, isTariff, monthFirst, monthDays}
+use Rattle.rules.specs.World.{gridCompany, energinet, holderOn, stateOn, notExisting, closed, linkedOn}
 
 -- the point that a message is about; a round is about none
 unfoldable pub pointOf : Body → Option ℕ
@@ -72,10 +73,11 @@ isEnerginet (Supplier s) = false
 -- "the grid company for its own elements, and for taxes on a blocked point; Energinet for its own; a supplier for Energinet's tariffs on an
 -- unblocked point that it holds on the given day"
 unfoldable pub mayLink : Opening → Tables → Sender → Place → Bool
-mayLink o t GridCompany l = eqb (ownerOf o (l .element)) 1 || (marked o tax (l .element) && blocked t (l .point))
-mayLink o t Energinet l = eqb (ownerOf o (l .element)) 2
+mayLink o t GridCompany l = eqb (ownerOf o (l .element)) gridCompany || (marked o tax (l .element) && blocked t (l .point))
+mayLink o t Energinet l = eqb (ownerOf o (l .element)) energinet
 mayLink o t (Supplier s) l =
-    eqb (ownerOf o (l .element)) 2 && (isTariff o (l .element) && (not (blocked t (l .point)) && eqb (holderOn t (l .point) (l .day)) s))
+    eqb (ownerOf o (l .element)) energinet
+    && (isTariff o (l .element) && (not (blocked t (l .point)) && eqb (holderOn t (l .point) (l .day)) s))
 
 -- "Kinds 5 to 7: the grid company. Kinds 4 and 8: Energinet."
 unfoldable pub maySend : Sender → Body → Bool
@@ -104,11 +106,11 @@ question10 from received b = asked (λ (l : Place). inTime from received (l .day
 
 -- 11: "Kinds 1 to 3: does the point exist on the given day (E50)?"
 unfoldable pub question11 : Tables → Body → Bool
-question11 t b = asked (λ (l : Place). not (eqb (stateOn t (l .point) (l .day)) 0)) (placeOf b)
+question11 t b = asked (λ (l : Place). not (eqb (stateOn t (l .point) (l .day)) notExisting)) (placeOf b)
 
 -- 12: "Is it other than closed on that day (D16)?"
 unfoldable pub question12 : Tables → Body → Bool
-question12 t b = asked (λ (l : Place). not (eqb (stateOn t (l .point) (l .day)) 4)) (placeOf b)
+question12 t b = asked (λ (l : Place). not (eqb (stateOn t (l .point) (l .day)) closed)) (placeOf b)
 
 -- 13: "Link: is the element not linked that day (D14)?"
 unfoldable pub question13 : Tables → (point element day : ℕ) → Bool

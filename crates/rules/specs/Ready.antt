@@ -5,7 +5,7 @@ use mathlib.Core.Bool.{true}
 use lib.ListN.{length}
 use Rattle.rules.specs.declared.Body.{Body}
 use Rattle.rules.specs.declared.Body.the-variants.{Link, Stop, Quantity, Holder, State, Reading, Block, Round}
-use Rattle.rules.specs.World.{Opening, Tables}
+use Rattle.rules.specs.World.{Opening, Tables, newState, closed}
 use Rattle.rules.specs.WellFormed.{readingCount}
 use Rattle.rules.specs.Questions.{question7, question8, ownQuestion}
 use Rattle.rules.specs.Whole.{Limits, TablesRight}
@@ -17,7 +17,7 @@ Ranged suppliers (Link p e d q) = (d < endOfDays) × (1 ≤ q) × (q ≤ mostQua
 Ranged suppliers (Stop p e d) = d < endOfDays
 Ranged suppliers (Quantity p e d q) = (d < endOfDays) × (1 ≤ q) × (q ≤ mostQuantity)
 Ranged suppliers (Holder p d h) = (d < endOfDays) × (h ≤ suppliers)
-Ranged suppliers (State p d v) = (d < endOfDays) × (1 ≤ v) × (v ≤ 4)
+Ranged suppliers (State p d v) = (d < endOfDays) × (newState ≤ v) × (v ≤ closed)
 Ranged suppliers (Reading p d h n) = (d < endOfDays) × (h < hourPlaces) × (n ≤ mostEnergy)
 Ranged suppliers (Block p b) = b ≤ 1
 Ranged suppliers Round = Unit {0}

@@ -1,15 +1,11 @@
 -- The limits and sizes of document 01, each named once.
 use Prim.Native.Nat.{ℕ, _*_}
-
--- "Is the month within 2000 to 2099"
-abbrev pub firstYear : ℕ
-firstYear = 2000
-
-abbrev pub lastYear : ℕ
-lastYear = 2099
+use Rattle.calendar.specs.Gregorian.{yearMonths}
+-- "Is the month within 2000 to 2099": the calendar's years and months
+pub use Rattle.calendar.specs.Gregorian.{firstYear, lastYear}
 
 abbrev pub lastMonth : ℕ
-lastMonth = 12
+lastMonth = yearMonths
 
 -- "Points: 1 to 256", "Suppliers: 1 to 16", "Elements: 1 to 64"
 abbrev pub mostPoints : ℕ
@@ -77,9 +73,23 @@ gridDaysBack = 90
 abbrev pub supplierDaysBack : ℕ
 supplierDaysBack = 21
 
--- the billionths of a krone
+-- "within ±10^12 kroner and ±10^13 quantity": what a line holds at most
+abbrev pub mostLineQuantity : ℕ
+mostLineQuantity = 10000000000000
+
+abbrev pub mostLineKroner : ℕ
+mostLineKroner = 1000000000000
+
+-- the billionths of a krone, and of a millionth of it
 abbrev pub billion : ℕ
 billion = 1000000000
+
+abbrev pub millionth : ℕ
+millionth = 1000
+
+-- the kinds of rounds: 1 fixing, 2 refixing, 3 any later
+abbrev pub lastRound : ℕ
+lastRound = 3
 
 -- ---- rows are packed words: how many values a field has room for, and the word that one of it stands for
 

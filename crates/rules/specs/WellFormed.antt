@@ -7,10 +7,14 @@ use lib.ListN.{length, getD, drop}
 use lib.Signed.{leZ}
 use lib.Dec.{leb, ltb, eqb}
 use Rattle.rules.specs.Basics.{within, allTo, allIn, chained}
-use Rattle.rules.specs.Sizes.{endOfDays, holderSize, stateSize, places, pricePlaces, hourPlaces, billion, elementSize, firstYear, lastMonth, lastYear, lineSize, mostElements, mostEnergy, mostPoints, mostPrice, mostQuantity, mostSuppliers, mostTariffPrice}
-use Rattle.rules.specs.Rows.{periodPoint, periodElement, periodFirst, periodEnd, periodQuantity, ofPair, valuePoint, valueFirst, valueOf}
-use Rattle.rules.specs.Lines.{Measure, fee, tariff}
-use Rattle.rules.specs.World.{Opening, Table, Tables, World, rowsOf, monthDays, kindOf, ownerOf, marksOf, marked, passOn, tax, hourly, lineCount, storedAt}
+use Rattle.rules.specs.Sizes.{firstYear, lastYear, lastMonth, endOfDays, mostPoints, mostSuppliers, mostElements, lastRound}
+use Rattle.rules.specs.Sizes.{mostPrice, mostTariffPrice, mostQuantity, mostEnergy, mostLineQuantity, mostLineKroner, billion}
+use Rattle.rules.specs.Sizes.{elementSize, pricePlaces, hourPlaces, lineSize, places, holderSize, stateSize}
+use Rattle.rules.specs.Rows.{periodPoint, periodElement, periodFirst, periodEnd, periodQuantity, ofPair}
+use Rattle.rules.specs.Rows.{valuePoint, valueFirst, valueOf}
+use Rattle.rules.specs.Lines.{Measure, subscription, fee, tariff}
+use Rattle.rules.specs.World.{Opening, Table, Tables, World, rowsOf, monthDays, kindOf, ownerOf, marksOf, lineCount, storedAt}
+use Rattle.rules.specs.World.{gridCompany, energinet, marked, passOn, tax, hourly, allMarks, newState, closed}
 
 -- ---- 2: "Is the month within 2000 to 2099 and every count within its limit?"
 
@@ -65,9 +69,9 @@ priceSize o e h = natAbs (getD (o .prices) (e * pricePlaces + h) (pos 0))
 -- element one, its 23 further places being 0." "other bits are question 4"
 unfoldable pub elementRight : Opening → (element : ℕ) → Bool
 elementRight o e =
-    within 1 3 (kindOf o e) && (within 1 2 (ownerOf o e) && (leb (marksOf o e) 15
+    within subscription tariff (kindOf o e) && (within gridCompany energinet (ownerOf o e) && (leb (marksOf o e) allMarks
     && (not (marked o passOn e && eqb (kindOf o e) fee)
-    && ((not (marked o tax e) || (eqb (kindOf o e) tariff && eqb (ownerOf o e) 2))
+    && ((not (marked o tax e) || (eqb (kindOf o e) tariff && eqb (ownerOf o e) energinet))
     && ((not (marked o hourly e) || eqb (kindOf o e) tariff)
     && (allTo (λ h. leb (priceSize o e h) (priceLimit (kindOf o e))) pricePlaces
     && (marked o hourly e || allTo (λ h. eqb (priceSize o e (suc h)) 0) (pricePlaces - 1))))))))
@@ -108,7 +112,7 @@ unfoldable pub holdersRight : Opening → Table → Bool
 holdersRight o t = tableRight (earlier holderSize) (valueRight holderSize 0 (o .suppliers) o) t
 
 unfoldable pub statesRight : Opening → Table → Bool
-statesRight o t = tableRight (earlier stateSize) (valueRight stateSize 1 4 o) t
+statesRight o t = tableRight (earlier stateSize) (valueRight stateSize newState closed o) t
 
 unfoldable pub tablesRight : Opening → Tables → Bool
 tablesRight o t =
@@ -117,8 +121,8 @@ tablesRight o t =
 
 -- 10^13, and 10^12 kroner in billionths
 unfoldable pub lineLimit : Measure → ℕ
-lineLimit Measure.quantity = 10000000000000
-lineLimit Measure.amount = 1000000000000000000000
+lineLimit Measure.quantity = mostLineQuantity
+lineLimit Measure.amount = mostLineKroner * billion
 
 -- the three numbers from place i on: both measures within their limits, and the amount in its one form
 unfoldable pub lineRight : (lines : List ℤ) → (place : ℕ) → Bool
@@ -133,4 +137,5 @@ linesRight o ls = allTo (λ k. lineRight ls (k * lineSize)) (lineCount o)
 unfoldable pub question5 : World → Bool
 question5 w =
     tablesRight (w .opening) (w .position .tables)
-    && (linesRight (w .opening) (w .position .lines) && (linesRight (w .opening) (w .sent .totals) && within 1 3 (w .sent .round)))
+    && (linesRight (w .opening) (w .position .lines)
+    && (linesRight (w .opening) (w .sent .totals) && within 1 lastRound (w .sent .round)))

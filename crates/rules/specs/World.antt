@@ -125,6 +125,13 @@ ownerOf o e = getD (o .elementData) (e * elementSize + 1) 0
 unfoldable pub marksOf : Opening → (element : ℕ) → ℕ
 marksOf o e = getD (o .elementData) (e * elementSize + 2) 0
 
+-- the two owners of elements
+abbrev pub gridCompany : ℕ
+gridCompany = 1
+
+abbrev pub energinet : ℕ
+energinet = 2
+
 -- "marks (1 VAT, 2 pass-on, 4 tax, 8 hourly)"
 abbrev pub passOn : ℕ
 passOn = 2
@@ -134,6 +141,10 @@ tax = 4
 
 abbrev pub hourly : ℕ
 hourly = 8
+
+-- all marks together
+abbrev pub allMarks : ℕ
+allMarks = 15
 
 unfoldable pub marked : Opening → (mark element : ℕ) → Bool
 marked o mark e = eqb (marksOf o e / mark % 2) 1
@@ -170,9 +181,25 @@ holderOn t p d = latest (recordedOn holderSize (rowsOf (t .holders)) p) d
 unfoldable pub stateOn : Tables → (point day : ℕ) → ℕ
 stateOn t p d = latest (recordedOn stateSize (rowsOf (t .states)) p) d
 
+-- these states
+abbrev pub notExisting : ℕ
+notExisting = 0
+
+abbrev pub newState : ℕ
+newState = 1
+
+abbrev pub connected : ℕ
+connected = 2
+
+abbrev pub disconnected : ℕ
+disconnected = 3
+
+abbrev pub closed : ℕ
+closed = 4
+
 -- "the state is connected or disconnected"
 unfoldable pub countingState : (state : ℕ) → Bool
-countingState s = eqb s 2 || eqb s 3
+countingState s = eqb s connected || eqb s disconnected
 
 unfoldable pub linkedOn : Tables → (point element day : ℕ) → Bool
 linkedOn t p e d = not (eqb (quantityOn (rowsOf (t .links)) p e d) 0)

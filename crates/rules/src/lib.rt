@@ -3,12 +3,6 @@
 
 // ---- limits and sizes
 
-pub const FIRST_YEAR: u64 = 2000;
-
-pub const LAST_YEAR: u64 = 2099;
-
-pub const LAST_MONTH: u64 = 12;
-
 pub const MOST_POINTS: u64 = 256;
 
 pub const MOST_SUPPLIERS: u64 = 16;
@@ -46,6 +40,17 @@ pub const MOST_TARIFF_PRICE: u64 = 9999999;
 pub const MOST_QUANTITY: u64 = 999;
 
 pub const MOST_ENERGY: u64 = 9999999;
+
+// What a line holds at most.
+pub const MOST_LINE_QUANTITY: u64 = 10000000000000;
+
+pub const MOST_LINE_KRONER: i64 = 1000000000000;
+
+// The billionths of a krone.
+pub const BILLION: u64 = 1000000000;
+
+// The kinds of rounds: 1 fixing, 2 refixing, 3 any later.
+pub const LAST_ROUND: u64 = 3;
 
 pub const DAYS_AHEAD: u64 = 1095;
 

@@ -1,12 +1,10 @@
 -- A book that questions 2 to 5 pass is one that questions 7 to 16 can be asked of: each fact is a part of those questions.
-use Prim.Native.Nat.{ℕ, _*_, _≤_}
+use Prim.Native.Nat.{ℕ}
 use mathlib.Core.Path.{_≡_, refl}
 use mathlib.Core.Bool.{true}
 use mathlib.Core.List.{List, [], _∷_}
 use mathlib.Core.Option.{Option, none, some}
-use lib.Dec.{leb, eqb}
-use lib.ListN.{length}
-use borrow.Author.Tests.{eqb-true, leb-true, le-leb, ltb-true}
+use borrow.Author.Tests.{le-leb, ltb-true}
 use native.Mathlib.Omega.{arith}
 use Rattle.rules.specs.declared.Book.{Book}
 use Rattle.rules.specs.declared.Fields.{Fields}
@@ -16,8 +14,8 @@ use Rattle.rules.specs.declared.Body.{Body}
 use Rattle.rules.specs.declared.Message.{Message}
 use Rattle.rules.specs.Basics.{allIn}
 use Rattle.rules.specs.Rows.{periodEnd}
-use Rattle.rules.specs.World.{Opening, Table, Tables, World, rowsOf}
-use Rattle.rules.specs.WellFormed.{withinLimits, rowsFit, openingSized, tablesSized, periodRight, linksRight, tablesRight, question2, question3, question5, readingCount}
+use Rattle.rules.specs.World.{Opening, rowsOf}
+use Rattle.rules.specs.WellFormed.{periodRight}
 use Rattle.rules.specs.Messages.{isDay, senderOf, bodyOf, both as bothOf, understood}
 use Rattle.rules.proofs.Tests.{cases, both}
 use Rattle.rules.proofs.PeriodsRight.{right-of}
@@ -25,7 +23,7 @@ use Rattle.rules.proofs.Parts.{lengths, formed, links-each}
 use Rattle.rules.specs.Whole.{Whole}
 use Rattle.rules.proofs.Passed.{ranged}
 use Rattle.tables.proofs.Right.{whole-rows}
-use Rattle.validation.specs.Decided.{endsInTime, Linked, Readable, InRanges}
+use Rattle.validation.specs.Decided.{endsInTime, Readable, InRanges}
 
 ends-all : (o : Opening) (rows : List ℕ) → allIn (periodRight o) rows ≡ true → allIn endsInTime rows ≡ true
 unfolding allIn endsInTime

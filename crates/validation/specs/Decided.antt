@@ -14,9 +14,10 @@ use Rattle.rules.specs.Sizes.{endOfDays, elementSize, mostPoints, mostElements,
 use Rattle.rules.specs.Basics.{allIn}
 use Rattle.rules.specs.Rows.{periodFirst, periodEnd}
 use Rattle.rules.specs.Lines.{tariff}
-use Rattle.rules.specs.World.{Opening, Tables, stateOn, tax}
+use Rattle.rules.specs.World.{Opening, Tables, gridCompany, energinet, tax, stateOn, notExisting, closed}
 use Rattle.rules.specs.Lent.{Lists, openingIn, tablesIn, lendData, lendRows, lendBlocks}
-use Rattle.rules.specs.Questions.{question7, question8, question9, question10, question11, question12, ownNumber, ownQuestion, mayLink, inTime}
+use Rattle.rules.specs.Questions.{question7, question8, question9, question10, question11, question12}
+use Rattle.rules.specs.Questions.{ownNumber, ownQuestion, mayLink, inTime}
 use Rattle.rules.specs.Effects.{ask}
 use Rattle.rules.specs.Ready.{Ranged}
 use Rattle.tables.specs.Order.{LinkRows, ValueRows}
@@ -45,8 +46,8 @@ unfoldable pub allowed : Opening → Tables → Sender → (received : ℕ) → 
 allowed o t from received l rest =
     ask (mayLink o t from l) 9
     (ask (inTime from received (l .day)) 10
-    (ask (not (eqb (stateOn t (l .point) (l .day)) 0)) 11
-    (ask (not (eqb (stateOn t (l .point) (l .day)) 4)) 12 rest)))
+    (ask (not (eqb (stateOn t (l .point) (l .day)) notExisting)) 11
+    (ask (not (eqb (stateOn t (l .point) (l .day)) closed)) 12 rest)))
 
 -- the first number, or the next where the first is 0
 unfoldable pub orNext : (first next : ℕ) → ℕ
@@ -56,9 +57,10 @@ orNext first next = cond (eqb first 0) next first
 
 -- may the sender link an element with that owner, kind and marks at a point with that block and holder
 unfoldable pub linkRight : Sender → (owner kind marks block holder : ℕ) → Bool
-linkRight Sender.GridCompany owner kind marks block holder = eqb owner 1 || (eqb (marks / tax % 2) 1 && eqb block 1)
-linkRight Sender.Energinet owner kind marks block holder = eqb owner 2
-linkRight (Sender.Supplier s) owner kind marks block holder = eqb owner 2 && (eqb kind tariff && (not (eqb block 1) && eqb holder s))
+linkRight Sender.GridCompany owner kind marks block holder = eqb owner gridCompany || (eqb (marks / tax % 2) 1 && eqb block 1)
+linkRight Sender.Energinet owner kind marks block holder = eqb owner energinet
+linkRight (Sender.Supplier s) owner kind marks block holder =
+    eqb owner energinet && (eqb kind tariff && (not (eqb block 1) && eqb holder s))
 
 -- the first row starts before the day, and the last ends after it
 unfoldable pub spansDay : (day : ℕ) → (rows : List ℕ) → Bool

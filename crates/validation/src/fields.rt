@@ -4,6 +4,7 @@ ghost use mathlib.Core.Bool.{_&&_};
 ghost use lib.Dec.{leb, ltb, eqb};
 ghost use Rattle.rules.specs.Basics.{within, when};
 ghost use Rattle.rules.specs.Sizes.{hourPlaces, mostEnergy};
+ghost use Rattle.rules.specs.World.{newState, closed};
 ghost use Rattle.rules.specs.Messages.{senderOf, bodyOf, both, understood, isDay, noHour, noElement, isQuantity};
 ghost use Rattle.rules.specs.declared.Body.{Body};
 ghost use Rattle.validation.specs.Found.{foundSender, foundBody, foundMessage};
@@ -169,7 +170,7 @@ fn holder_of(suppliers: u64, f: Fields) -> FoundBody
 
 // Kind 5.
 fn state_of(f: Fields) -> FoundBody
-    ensures { λ r. ⌜ foundBody r ≡ when (isDay (f .day) && (noElement f && within 1 4 (f .value)))
+    ensures { λ r. ⌜ foundBody r ≡ when (isDay (f .day) && (noElement f && within newState closed (f .value)))
         (Body.State (f .point) (f .day) (f .value)) ⌝ }
 {
     body_when(

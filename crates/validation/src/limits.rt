@@ -6,11 +6,11 @@ ghost use Rattle.rules.specs.Sizes.{mostElements, mostPoints, mostSuppliers};
 ghost use Rattle.rules.specs.WellFormed.{withinLimits, rowsFit};
 ghost use Rattle.rules.specs.Lent.{Lists, openingIn, tablesIn};
 use crate::fields::all_three;
+use calendar::FIRST_YEAR;
+use calendar::LAST_YEAR;
+use calendar::YEAR_MONTHS;
 use pricing::is_within;
 use rules::Book;
-use rules::FIRST_YEAR;
-use rules::LAST_MONTH;
-use rules::LAST_YEAR;
 use rules::MOST_ELEMENTS;
 use rules::MOST_POINTS;
 use rules::MOST_SUPPLIERS;
@@ -33,7 +33,7 @@ pub fn is_limited(book: Book) -> bool
 {
     all_three(
         is_within(FIRST_YEAR, LAST_YEAR, book.year),
-        is_within(1, LAST_MONTH, book.month),
+        is_within(1, YEAR_MONTHS, book.month),
         counts_limited(book),
     )
 }

@@ -8,13 +8,15 @@ ghost use Rattle.calendar.specs.Gregorian.{InRange};
 ghost use Rattle.rules.specs.declared.Body.{Body};
 ghost use Rattle.rules.specs.Sizes.{endOfDays, elementSize, gridDaysBack, holderSize, stateSize};
 ghost use Rattle.rules.specs.Lines.{tariff};
-ghost use Rattle.rules.specs.World.{tax};
+ghost use Rattle.rules.specs.World.{gridCompany, energinet, tax, notExisting, closed};
 ghost use Rattle.rules.specs.Lent.{Lists, openingIn, tablesIn, lendData, lendLinks, lendHolders, lendBlocks, was};
-ghost use Rattle.rules.specs.Questions.{isGridCompany, isEnerginet, inTime, mayLink, tariffOnce, question13, question14, question15, question16};
+ghost use Rattle.rules.specs.Questions.{isGridCompany, isEnerginet, inTime, mayLink, tariffOnce};
+ghost use Rattle.rules.specs.Questions.{question13, question14, question15, question16};
 ghost use Rattle.rules.specs.Effects.{ask};
 ghost use Rattle.rules.specs.Answers.{numberOf};
 ghost use Rattle.tables.specs.Order.{LinkRows, ValueRows};
-ghost use Rattle.validation.specs.Decided.{asking, linkRight, decidedIn, allowed, orNext, spansDay, Placed, Linked, Readable, InRanges};
+ghost use Rattle.validation.specs.Decided.{asking, linkRight, decidedIn, allowed, orNext, spansDay};
+ghost use Rattle.validation.specs.Decided.{Placed, Linked, Readable, InRanges};
 use calendar::days_in_month;
 use calendar::first_day;
 use facts::holder_on;
@@ -90,7 +92,7 @@ pub fn in_time(sender: Sender, received: u64, day: u64) -> bool
 
 // A supplier's right to link: Energinet's tariffs on an unblocked point that it holds that day.
 fn supplier_may(owner: u64, kind: u64, block: u8, holder: u64, supplier: u64) -> bool
-    ensures { λ r. ⌜ r ≡ eqb owner 2 && (eqb kind tariff && (not (eqb block 1) && eqb holder supplier)) ⌝ }
+    ensures { λ r. ⌜ r ≡ eqb owner energinet && (eqb kind tariff && (not (eqb block 1) && eqb holder supplier)) ⌝ }
 {
     if owner == ENERGINET {
         if kind == TARIFF {
@@ -109,7 +111,7 @@ fn supplier_may(owner: u64, kind: u64, block: u8, holder: u64, supplier: u64) ->
 
 // The grid company's: its own elements, and taxes on a blocked point.
 fn grid_company_may(owner: u64, marks: u64, block: u8) -> bool
-    ensures { λ r. ⌜ r ≡ eqb owner 1 || (eqb (marks / tax % 2) 1 && eqb block 1) ⌝ }
+    ensures { λ r. ⌜ r ≡ eqb owner gridCompany || (eqb (marks / tax % 2) 1 && eqb block 1) ⌝ }
 {
     if owner == GRID_COMPANY {
         true
@@ -133,7 +135,7 @@ fn may_link(sender: Sender, owner: u64, kind: u64, marks: u64, block: u8, holder
 
 // Questions 11 and 12: the point exists, and is other than closed.
 fn state_allows(state: u64) -> Answer
-    ensures { λ r. ⌜ numberOf r ≡ ask (not (eqb state 0)) 11 (ask (not (eqb state 4)) 12 0) ⌝ }
+    ensures { λ r. ⌜ numberOf r ≡ ask (not (eqb state notExisting)) 11 (ask (not (eqb state closed)) 12 0) ⌝ }
 {
     if state == NOT_EXISTING {
         Answer::NotExisting

@@ -1,7 +1,6 @@
 -- Where question 7 does not say no, the search answers.
 use mathlib.Core.Path.{_≡_, sym, _∙_}
 use borrow.Author.Tests.{ne-eqb}
-use Rattle.rules.specs.World.{World}
 use Rattle.rules.specs.Queries.{dayNumber}
 use Rattle.rules.specs.Answers.{numberOf}
 use Rattle.rules.specs.Whole.{Whole}

@@ -25,8 +25,10 @@ days-in-month-requires : tie.Need-days-in-month-requires Inv-loop μ-loop
 days-in-month-requires c κs = search needs
 
 add-end : tie.Need-add-end Inv-loop μ-loop
-add-end c = let s = c .before .before .before .before .before in let a = s .args in let m = month-within (a .book .year) (a .book .month)
-    (s .pre .month) in omega arith
+add-end c =
+    let s : tie.Start Inv-loop μ-loop = search in
+    let m = month-within (s .args .book .year) (s .args .book .month) (s .pre .month) in
+    omega arith
 
 first-day-requires-2 : tie.Need-first-day-requires-2 Inv-loop μ-loop
 first-day-requires-2 c κs = search needs
@@ -42,7 +44,7 @@ loop-holds c =
 
 lacks-holder-requires : tie.Need-lacks-holder-requires Inv-loop μ-loop
 lacks-holder-requires c κs =
-    let s = c .before .before .before .before .before .before .before .before in
+    let s : tie.Start Inv-loop μ-loop = search in
     let a = s .args in
     let m = month-within (a .book .year) (a .book .month) (s .pre .month) in
     let v = c .before .loop .inv in
@@ -61,7 +63,7 @@ returns c o whole =
 
 add-day : tie.Need-add-day Inv-loop μ-loop
 add-day c =
-    let s = c .before .before .before .before .before .before .before .before .before .before in
+    let s : tie.Start Inv-loop μ-loop = search in
     let a = s .args in
     let m = month-within (a .book .year) (a .book .month) (s .pre .month) in
     let e = c .before .before .before .loop .inv .last in
@@ -72,7 +74,8 @@ loop-less c = search needs
 
 loop-again : tie.Need-loop-again Inv-loop μ-loop
 loop-again c =
-    let a = c .before .before .before .before .before .before .before .before .before .before .args in
+    let s : tie.Start Inv-loop μ-loop = search in
+    let a = s .args in
     let l = c .before .before .before .loop in
     searched-more (a .book) (a .links .now) (a .holders .now) (a .states .now) (a .point) _ (l .day) (l .inv) (omega arith)
     (λ o. sym (c .before .lacks-holder .ensures o) ∙ c .if1 .left)

@@ -33,8 +33,9 @@ loop-less c = search needs
 
 loop-again : tie.Need-loop-again Inv-loop μ-loop
 loop-again c =
-    let s = c .before .before .before .before .before .before in
-    let l = c .before .before .before .before .loop in (
+    let s : tie.Start Inv-loop μ-loop = search in
+    let turn : tie.At-loop Inv-loop μ-loop = search in
+    let l = turn .loop in (
       omega arith,
       any-more (linkedBy (take (s .args .book .periods) (s .args .links .now)) (s .args .point) (s .args .day)) (l .element) (l .inv .1)
           (rw (sym (c .before .quantity-on .ensures) ∙ c .if2 .taken)),
@@ -43,15 +44,16 @@ loop-again c =
 returns : tie.Need-returns Inv-loop μ-loop
 unfolding linkedOn rowsOf
 returns c o =
-    let s = c .before .before .before .before .before .before in
-    let l = c .before .before .before .before .loop in
+    let s : tie.Start Inv-loop μ-loop = search in
+    let turn : tie.At-loop Inv-loop μ-loop = search in
+    let l = turn .loop in
     sym (any-true (linkedBy (take (s .args .book .periods) (s .args .links .now)) (s .args .point) (s .args .day)) (s .args .book .elements)
     (l .element) (omega arith) (rw (ne-eqb _ _ (λ z. c .if2 .left (c .before .quantity-on .ensures ∙ z)))))
 
 returns-2 : tie.Need-returns-2 Inv-loop μ-loop
 unfolding linkedOn rowsOf
 returns-2 c o =
-    let s = c .before .before .before .before in
+    let s : tie.Start Inv-loop μ-loop = search in
     let l = c .before .before .loop in
     let e : s .args .book .elements ≡ l .element = omega arith in
     sym (ap (anyTo (linkedBy (take (s .args .book .periods) (s .args .links .now)) (s .args .point) (s .args .day))) e ∙ l .inv .1)

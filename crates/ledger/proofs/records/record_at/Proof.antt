@@ -8,7 +8,6 @@ use mir.Val.{Fits}
 use mir.Facts.{fits-natAbs}
 use Rattle.integers.proofs.Integers.{back}
 use Rattle.ledger.specs.RecordNumbers.{recordAt}
-use native.Mathlib.Omega.{arith}
 use borrow.Author.Needs.{needs}
 use Rattle.ledger.proofs.records.record_at.Statement.{statement}
 use Rattle.ledger.proofs.records.record_at.Tie as tie

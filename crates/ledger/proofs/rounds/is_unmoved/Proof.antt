@@ -1,5 +1,5 @@
 -- An amount has one form, so that a line is what was sent exactly where its three numbers are.
-use mathlib.Core.Path.{_≡_, sym, ap}
+use mathlib.Core.Path.{sym, ap}
 use mir.Syntax.{w64}
 use mir.Val.{ofZ}
 use borrow.Author.Tests.{eqb-true, eq-eqb}

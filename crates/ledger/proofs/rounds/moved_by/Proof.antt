@@ -1,4 +1,4 @@
--- `rounds::moved_by` meets its contract: the amounts of two lines that are right are those that are stored. Assumes nothing.
+-- `ledger::moved_by` meets its contract: the amounts of two lines that are right are those that are stored. Assumes nothing.
 use Rattle.rules.proofs.Stored.{amount-back}
 use Rattle.ledger.specs.Moved.{movedBy}
 use borrow.Author.Needs.{needs}

@@ -1,7 +1,6 @@
 -- The lines before `k` that have moved are counted.
-use mathlib.Core.Path.{_≡_, sym, ap, _∙_}
-use Prim.Native.Nat.{_+_, _-_, _*_, _≤_}
-use lib.ListN.{length}
+use mathlib.Core.Path.{_≡_, sym}
+use Prim.Native.Nat.{_-_, _*_, _≤_}
 use Rattle.ledger.specs.Moved.{unmovedAt, movedCount}
 use Rattle.rules.proofs.Parts.{few-lines}
 use Rattle.ledger.proofs.RoundLaws.{sendable, count-none, count-few, count-more, zero-or-one}

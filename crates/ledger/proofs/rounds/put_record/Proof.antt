@@ -80,9 +80,10 @@ same-length c = simp length-set
 returns : tie.Need-returns
 unfolding recordNumbers
 returns c =
-    let x = c .before .before .before .before .before .before .args in
-    let a = c .before .before .before .before .before .before .args .r in
-    let h = c .before .before .before .before .before .before .pre .0 in
+    let start : tie.Start = search in
+    let x = start .args in
+    let a = x .r in
+    let h = start .pre .0 in
     rw (
       cast-is (a .kind) (h .kind),
       cast-is (a .supplier) (h .supplier),

@@ -1,8 +1,7 @@
 -- A line that has not moved is what was sent already; one that has is written, and then copied.
-use mathlib.Core.Path.{_≡_, refl, sym, _∙_}
+use mathlib.Core.Path.{sym, _∙_}
 use Rattle.rules.proofs.Parts.{few-lines}
 use Rattle.ledger.proofs.RoundLaws.{copied-same}
-use native.Mathlib.Omega.{arith}
 use borrow.Author.Needs.{needs}
 use Rattle.ledger.proofs.rounds.send_line.Statement.{statement}
 use Rattle.ledger.proofs.rounds.send_line.Tie as tie

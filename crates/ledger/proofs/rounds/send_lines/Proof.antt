@@ -1,7 +1,6 @@
 -- The lines before `k` are copied, and the records of those that had moved stand at the front of the list.
-use mathlib.Core.Path.{_≡_, sym, ap, _∙_}
+use mathlib.Core.Path.{_≡_, sym, _∙_}
 use Prim.Native.Nat.{_-_, _*_, _≤_}
-use lib.ListN.{length}
 use lib.Seq.{paste, paste-zero}
 use Rattle.ledger.specs.Moved.{linesIn, lineRecords, movedCount}
 use Rattle.ledger.specs.RecordNumbers.{numbersAfter}

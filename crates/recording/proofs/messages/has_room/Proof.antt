@@ -1,4 +1,4 @@
--- `writing::has_room` meets its contract: a row that replaces one takes no place, another takes the next.
+-- `recording::has_room` meets its contract: a row that replaces one takes no place, another takes the next.
 use mathlib.Core.Path.{_≡_}
 use mathlib.Core.Bool.{true, false}
 use Prim.Native.Nat.{_+_}

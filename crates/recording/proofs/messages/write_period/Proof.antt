@@ -3,7 +3,6 @@ use Rattle.tables.proofs.Order.{run-rising}
 use Rattle.tables.proofs.Callers.{inserted}
 use lib.Seq.{length-take-le}
 use mathlib.Core.Path.{sym}
-use native.Mathlib.Omega.{arith}
 use borrow.Author.Needs.{needs}
 use Rattle.recording.proofs.messages.write_period.Statement.{statement}
 use Rattle.recording.proofs.messages.write_period.Tie as tie

@@ -1,5 +1,4 @@
 -- The word is the value's, and the table records it.
-use native.Mathlib.Omega.{arith}
 use borrow.Author.Needs.{needs}
 use Rattle.recording.proofs.messages.write_value.Statement.{statement}
 use Rattle.recording.proofs.messages.write_value.Tie as tie

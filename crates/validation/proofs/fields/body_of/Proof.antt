@@ -1,4 +1,4 @@
--- `intake::body_of` meets its contract: the kind number picks the clause of the rules.
+-- `validation::body_of` meets its contract: the kind number picks the clause of the rules.
 use mathlib.Core.Path.{sym, _∙_}
 use Rattle.validation.proofs.Arms.{kind-1, kind-2, kind-3, kind-4, kind-5, kind-6, kind-7, kind-8, kind-else}
 use borrow.Author.Needs.{needs}

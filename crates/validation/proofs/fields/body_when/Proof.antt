@@ -1,4 +1,4 @@
--- `intake::body_when` meets its contract: by cases on the test.
+-- `validation::body_when` meets its contract: by cases on the test.
 use mathlib.Core.Path.{sym, _∙_}
 use Rattle.rules.specs.Basics.{when}
 use borrow.Author.Needs.{needs}

@@ -1,4 +1,4 @@
--- `intake::both_zero` meets its contract: by cases on the first field.
+-- `validation::both_zero` meets its contract: by cases on the first field.
 use borrow.Author.Tests.{eq-eqb, ne-eqb}
 use Rattle.validation.proofs.fields.both_zero.Statement.{statement}
 use Rattle.validation.proofs.fields.both_zero.Tie as tie

@@ -1,4 +1,4 @@
--- `intake::is_day` meets its contract: it is the definition.
+-- `validation::is_day` meets its contract: it is the definition.
 use Rattle.rules.specs.Messages.{isDay}
 use mathlib.Core.Path.{refl}
 use Rattle.validation.proofs.fields.is_day.Statement.{statement}

@@ -1,4 +1,4 @@
--- `intake::is_reading` meets its contract: by cases on the hour.
+-- `validation::is_reading` meets its contract: by cases on the hour.
 use borrow.Author.Tests.{lt-ltb, le-ltb}
 use Rattle.validation.proofs.fields.is_reading.Statement.{statement}
 use Rattle.validation.proofs.fields.is_reading.Tie as tie

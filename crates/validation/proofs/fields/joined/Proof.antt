@@ -1,4 +1,4 @@
--- `intake::joined` meets its contract: by cases on the sender and the body.
+-- `validation::joined` meets its contract: by cases on the sender and the body.
 use Rattle.rules.specs.Messages.{both}
 use borrow.Author.Needs.{needs}
 use Rattle.validation.proofs.fields.joined.Statement.{statement}
@@ -26,7 +26,9 @@ returns-2 c = rw (c .before .before .before .sender .given .1, c .enum-told2 .gi
 
 returns-3 : tie.Need-returns-3
 unfolding both
-returns-3 c = rw (c .before .before .before .before .sender .given .1, c .before .body .given .1)
+returns-3 c =
+    let known : tie.After-sender = search in
+    rw (known .sender .given .1, c .before .body .given .1)
 
 pub joined-spec : {M : Type 1} → statement M
 joined-spec =

@@ -1,4 +1,4 @@
--- `intake::quantity_of` meets its contract: kind 3: the three tests are those of the rules.
+-- `validation::quantity_of` meets its contract: kind 3: the three tests are those of the rules.
 use mathlib.Core.Path.{_∙_}
 use Rattle.rules.specs.Messages.{noHour, noElement, isQuantity}
 use borrow.Author.Needs.{needs}

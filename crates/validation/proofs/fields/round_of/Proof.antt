@@ -1,4 +1,4 @@
--- `intake::round_of` meets its contract: kind 8: the three tests are those of the rules.
+-- `validation::round_of` meets its contract: kind 8: the three tests are those of the rules.
 use mathlib.Core.Path.{_∙_}
 use Rattle.rules.specs.Messages.{noHour, noElement, isQuantity}
 use borrow.Author.Needs.{needs}

@@ -1,4 +1,4 @@
--- `intake::sender_of` meets its contract: the role picks the clause of the rules.
+-- `validation::sender_of` meets its contract: the role picks the clause of the rules.
 use mathlib.Core.Path.{sym, _∙_}
 use Rattle.validation.proofs.Arms.{role-1, role-2, role-3, role-else}
 use borrow.Author.Needs.{needs}

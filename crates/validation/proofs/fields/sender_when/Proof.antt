@@ -1,4 +1,4 @@
--- `intake::sender_when` meets its contract: by cases on the test.
+-- `validation::sender_when` meets its contract: by cases on the test.
 use Rattle.rules.specs.Basics.{when}
 use Rattle.validation.proofs.fields.sender_when.Statement.{statement}
 use Rattle.validation.proofs.fields.sender_when.Tie as tie

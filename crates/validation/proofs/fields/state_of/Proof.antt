@@ -1,4 +1,4 @@
--- `intake::state_of` meets its contract: kind 5: the three tests are those of the rules.
+-- `validation::state_of` meets its contract: kind 5: the three tests are those of the rules.
 use mathlib.Core.Path.{_∙_}
 use Rattle.rules.specs.Messages.{noHour, noElement, isQuantity}
 use borrow.Author.Needs.{needs}

@@ -1,4 +1,4 @@
--- `intake::stop_of` meets its contract: kind 2: the three tests are those of the rules.
+-- `validation::stop_of` meets its contract: kind 2: the three tests are those of the rules.
 use mathlib.Core.Path.{_∙_}
 use Rattle.rules.specs.Messages.{noHour, noElement, isQuantity}
 use borrow.Author.Needs.{needs}

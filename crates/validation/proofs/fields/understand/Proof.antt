@@ -1,4 +1,4 @@
--- `intake::understand` meets its contract: question 6 of the received day, then of the sender and the body.
+-- `validation::understand` meets its contract: question 6 of the received day, then of the sender and the body.
 use mathlib.Core.Path.{sym, _∙_}
 use Rattle.rules.specs.Messages.{understood}
 use borrow.Author.Needs.{needs}
@@ -19,8 +19,11 @@ joined-requires c κs = search needs
 
 returns : tie.Need-returns
 unfolding understood
-returns c = rw (sym (c .before .before .before .before .is-day .ensures) ∙ c .before .before .before .if1 .taken) (c .joined .ensures
-    ∙ rw (c .before .before .sender-of .ensures, c .before .body-of .ensures))
+returns c =
+    let asked : tie.After-is-day = search in
+    let then : tie.Then1 = search in
+    rw (sym (asked .is-day .ensures) ∙ then .if1 .taken)
+    (c .joined .ensures ∙ rw (c .before .before .sender-of .ensures, c .before .body-of .ensures))
 
 returns-2 : tie.Need-returns-2
 unfolding understood

@@ -1,4 +1,4 @@
--- `messages::decide_round` meets its contract: by cases on the sender.
+-- `validation::decide_round` meets its contract: by cases on the sender.
 use mathlib.Core.Path.{sym, _∙_}
 use Rattle.rules.specs.Effects.{ask}
 use borrow.Author.Needs.{needs}

@@ -1,4 +1,4 @@
--- `messages::first_no` meets its contract: by cases on whether the first number is 0.
+-- `validation::first_no` meets its contract: by cases on whether the first number is 0.
 use mathlib.Core.Path.{sym, _∙_}
 use borrow.Author.Tests.{eq-eqb, ne-eqb}
 use Rattle.validation.specs.Decided.{orNext}

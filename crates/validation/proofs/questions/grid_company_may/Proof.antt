@@ -1,4 +1,4 @@
--- `messages::grid_company_may` meets its contract: by cases on owner and tax mark.
+-- `validation::grid_company_may` meets its contract: by cases on owner and tax mark.
 use borrow.Author.Tests.{eq-eqb, ne-eqb}
 use Rattle.validation.proofs.questions.grid_company_may.Statement.{statement}
 use Rattle.validation.proofs.questions.grid_company_may.Tie as tie

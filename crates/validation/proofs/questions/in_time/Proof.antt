@@ -1,4 +1,4 @@
--- `messages::in_time` meets its contract: too late for every sender, or each by its own days back.
+-- `validation::in_time` meets its contract: too late for every sender, or each by its own days back.
 use mathlib.Core.Path.{sym}
 use Rattle.validation.proofs.Asks.{too-late}
 use borrow.Author.Tests.{le-leb, lt-leb}

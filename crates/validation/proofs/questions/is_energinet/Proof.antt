@@ -1,4 +1,4 @@
--- `messages::is_energinet` meets its contract: by cases on the sender.
+-- `validation::is_energinet` meets its contract: by cases on the sender.
 use Rattle.rules.specs.Questions.{isEnerginet}
 use borrow.Author.Needs.{needs}
 use Rattle.validation.proofs.questions.is_energinet.Statement.{statement}

@@ -1,4 +1,4 @@
--- `messages::is_grid_company` meets its contract: by cases on the sender.
+-- `validation::is_grid_company` meets its contract: by cases on the sender.
 use Rattle.rules.specs.Questions.{isGridCompany}
 use borrow.Author.Needs.{needs}
 use Rattle.validation.proofs.questions.is_grid_company.Statement.{statement}

@@ -1,6 +1,6 @@
 -- The numbers that were read are those that the rule looks at.
 use mathlib.Core.Path.{sym, _∙_}
-use Rattle.rules.specs.Lent.{Lists, openingIn, tablesIn, lendData, lendHolders, lendBlocks}
+use Rattle.rules.specs.Lent.{openingIn, tablesIn, lendData, lendHolders, lendBlocks}
 use Rattle.validation.proofs.Asks.{may-is}
 use borrow.Author.Needs.{needs}
 use Rattle.validation.proofs.questions.is_permitted.Statement.{statement}

@@ -1,4 +1,4 @@
--- `messages::is_sent` meets its contract: by cases on the point and the right.
+-- `validation::is_sent` meets its contract: by cases on the point and the right.
 use borrow.Author.Tests.{lt-ltb, le-ltb}
 use Rattle.rules.specs.Effects.{ask}
 use Rattle.validation.proofs.questions.is_sent.Statement.{statement}

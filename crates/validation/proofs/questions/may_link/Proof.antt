@@ -1,4 +1,4 @@
--- `messages::may_link` meets its contract: each sender by its own clause.
+-- `validation::may_link` meets its contract: each sender by its own clause.
 use Rattle.validation.specs.Decided.{linkRight}
 use borrow.Author.Needs.{needs}
 use Rattle.validation.proofs.questions.may_link.Statement.{statement}

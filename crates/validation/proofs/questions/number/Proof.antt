@@ -1,4 +1,4 @@
--- `messages::number` meets its contract: each answer by its number.
+-- `validation::number` meets its contract: each answer by its number.
 use borrow.Author.Needs.{needs}
 use Rattle.validation.proofs.questions.number.Statement.{statement}
 use Rattle.validation.proofs.questions.number.Tie as tie

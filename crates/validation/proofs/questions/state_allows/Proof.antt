@@ -1,4 +1,4 @@
--- `messages::state_allows` meets its contract: by cases on the state.
+-- `validation::state_allows` meets its contract: by cases on the state.
 use borrow.Author.Tests.{eq-eqb, ne-eqb}
 use Rattle.rules.specs.Effects.{ask}
 use Rattle.validation.proofs.questions.state_allows.Statement.{statement}

@@ -1,4 +1,4 @@
--- `messages::supplier_may` meets its contract: by cases on owner, kind and block.
+-- `validation::supplier_may` meets its contract: by cases on owner, kind and block.
 use borrow.Author.Tests.{eq-eqb, ne-eqb}
 use Rattle.validation.proofs.questions.supplier_may.Statement.{statement}
 use Rattle.validation.proofs.questions.supplier_may.Tie as tie
