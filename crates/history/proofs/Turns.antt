@@ -3,48 +3,26 @@
 use Prim.Native.Nat.{ℕ, suc, _+_, _-_, _*_, _/_, _≤_, _<_}
 use mathlib.Core.Path.{_≡_, refl, sym, ap, ap₂, subst, _∙_}
 use mathlib.Core.List.{List, [], _∷_, _++_, append-assoc}
-use mathlib.Core.Option.{Option, none, some}
 use lib.IntN.{ℤ}
 use lib.ListN.{length, take, drop, set, replicate, length-append, length-drop, length-replicate, take-append-drop}
 use lib.Seq.{drop-cons, drop-drop, take-at, drop-at, set-at}
-use borrow.Author.Tests.{leb-true}
 use native.Mathlib.Omega.{arith}
 use native.Mathlib.Numerals.{add-one}
-use Rattle.rules.specs.declared.Body.{Body}
 use Rattle.rules.specs.declared.Fields.{Fields}
 use Rattle.rules.specs.declared.Record.{Record}
 use Rattle.rules.specs.Answers.{numberOf}
 use Rattle.rules.specs.Basics.{listTo}
 use Rattle.rules.specs.World.{World}
-use Rattle.rules.specs.Effects.{written, question17, question18, answer, accepted, step, writtenBy, recordsOf}
+use Rattle.rules.specs.Effects.{answer, step, recordsOf}
 use Rattle.rules.specs.Claim.{Event, History, advance, advanceAll, begin}
-use Rattle.rules.proofs.Passed.{asked-passed, behind, taken}
+use Rattle.rules.proofs.Passed.{records-fit}
+use Rattle.rules.proofs.Demand3.{advance-snoc}
 use Rattle.rules.proofs.Ranges.{length-listTo}
 use Rattle.ledger.specs.RecordNumbers.{numbersOf, numbersAfter, recordNumbers}
 use Rattle.ledger.proofs.RecordNumbers.{length-numbers, length-after, numbers-none}
 use Rattle.settlement.specs.declared.Reply.{Reply}
 use Rattle.settlement.specs.Replies.{roomIn, Replied}
 use Rattle.history.specs.Runs.{fieldsAt, messagesOf, anyRecord, lentWith, eventsFrom, runFrom, answersTo, Followed}
-
--- ---- the records of a message fit the list that is lent with it
-
-module _ (w : World) (f : Fields) (room : ℕ) where
-  written-fit : (x : Option Body) → accepted w f room ≡ x → length (writtenBy w x) ≤ room
-  unfolding writtenBy question18
-  written-fit none e = omega arith
-  written-fit (some b) e =
-      let t = taken w f room b e in
-      let k = behind w f room 0 (λ n i j l. omega arith) (t .answered) in
-      let q : some (k .message) ≡ some (t .message) = sym (k .is) ∙ t .is in
-      let m : k .message ≡ t .message = cc in
-      let z : k .message .body ≡ b = ap (λ x. x .body) m ∙ t .body in
-      let p = asked-passed (question17 w (k .message .body)) 17 _ 0 (λ n. omega arith) (k .rest) in
-      let r = asked-passed (question18 w (k .message .body) room) 18 _ 0 (λ n. omega arith) (p .1) in
-      subst (λ (x : Body). length (written w x) ≤ room) z (leb-true _ room (r .0))
-
-  pub records-fit : length (recordsOf w f room) ≤ room
-  unfolding recordsOf
-  records-fit = written-fit (accepted w f room) refl
 
 -- ---- a lent list counts by its length
 
@@ -85,11 +63,6 @@ pub events-more : (w : World) (fs : List Fields) (f : Fields) (room : ℕ) → e
 unfolding eventsFrom left
 events-more w [] f room = refl
 events-more w (g ∷ fs) f room = ap (λ (vs : List Event). lentWith g room ∷ vs) (events-more (step w g room) fs f _)
-
-advance-snoc : (h : History) (vs : List Event) (v : Event) → advanceAll h (vs ++ (v ∷ [])) ≡ advance (advanceAll h vs) v
-unfolding advanceAll
-advance-snoc h [] v = refl
-advance-snoc h (u ∷ us) v = advance-snoc (advance h u) us v
 
 pub answers-more : (h : History) (vs : List Event) (v : Event)
     → answersTo (h .world) (vs ++ (v ∷ [])) ≡ answersTo (h .world) vs ++ (answer (advanceAll h vs .world) (v .fields) (length (v .lent)) ∷ [])

@@ -29,7 +29,6 @@ use rules::LineAnswer;
 use tables::pair_part;
 use tables::quantity_on;
 use validation::questions::ask_element;
-use validation::questions::ask_pair;
 use validation::questions::ask_point;
 use validation::questions::number;
 
@@ -77,19 +76,16 @@ pub fn line(book: Book, lines: &[i64], supplier: u64, element: u64) -> LineAnswe
 
 // ---- the periods of a point and element
 
-// Everything recorded for a point and an element, as that part of the link table; the empty part where question 7 or 8 says no (the number
-// is `ask_pair`'s). Logarithmic in the rows.
+// Everything recorded for a point and an element that pass questions 7 and 8 (`validation::questions::ask_pair`), as that part of the link
+// table. Logarithmic in the rows.
 pub fn periods(book: Book, links: &[u64], point: u64, element: u64) -> &[u64]
     requires { ⌜ ((o : Lists) × Whole (worldIn book (lendLinks (now links) o))) ⌝ }
+    requires { ⌜ (point < book .points) × (element < book .elements) ⌝ }
     ensures { λ r. ⌜ ((o : Lists) →
         let w = worldIn book (lendLinks (was links) o) in
         Whole w → now r ≡ periodsQuery w point element) ⌝ }
 {
-    let used = book.periods as usize;
-    if number(ask_pair(book, point, element)) == 0 {
-        return pair_part(links, used, point, element);
-    }
-    &links[0..0]
+    pair_part(links, book.periods as usize, point, element)
 }
 
 // ---- a day without a holder

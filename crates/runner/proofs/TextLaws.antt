@@ -2,24 +2,22 @@
 use Prim.Native.Nat.{ℕ, _+_, _*_, _≤_, _<_}
 use native.Mathlib.Numerals.{add-one}
 use native.Mathlib.Omega.{arith}
-use mathlib.Core.Path.{_≡_, refl, sym, ap, ap₂, subst, _∙_}
+use mathlib.Core.Path.{_≡_, sym, ap, ap₂, subst, _∙_}
 use mathlib.Core.List.{List, [], _∷_, _++_, append-assoc, append-nil}
-use mathlib.Core.Option.{Option, none, some}
 use lib.IntN.{ℤ}
 use lib.ListN.{length}
-use borrow.Author.Tests.{leb-true, ne-eqb}
+use borrow.Author.Tests.{ne-eqb}
 use mathlib.Core.Logic.{_≢_}
 use mathlib.Core.Bool.{Bool, true}
 use Rattle.calendar.specs.Gregorian.{daysOfMonth, firstDay}
 use Rattle.rules.specs.declared.Book.{Book}
-use Rattle.rules.specs.declared.Body.{Body}
 use Rattle.rules.specs.declared.Fields.{Fields}
 use Rattle.rules.specs.declared.Record.{Record}
 use Rattle.rules.specs.Answers.{numberOf}
 use Rattle.rules.specs.Basics.{listTo}
 use Rattle.rules.specs.World.{World}
-use Rattle.rules.specs.Effects.{written, question17, question18, answer, accepted, writtenBy, recordsOf}
-use Rattle.rules.proofs.Passed.{asked-passed, behind, taken}
+use Rattle.rules.specs.Effects.{written, answer, recordsOf}
+use Rattle.rules.proofs.Passed.{records-fit}
 use Rattle.ledger.specs.RecordNumbers.{recordAt, RecordPlaces, numbersAfter}
 use Rattle.ledger.proofs.RecordNumbers.{records-read, records-placed}
 use Rattle.settlement.specs.declared.Reply.{Reply}
@@ -65,24 +63,6 @@ pub line-fits : {i from at : ℕ} {a b text : List ℕ} → Written (i * longest
 line-fits w count m less room same = omega (arith, w .end, w .short)
 
 -- ---- the records of a message
-
-module _ (w : World) (f : Fields) (room : ℕ) where
-  written-fit : (x : Option Body) → accepted w f room ≡ x → length (writtenBy w x) ≤ room
-  unfolding writtenBy question18
-  written-fit none e = omega arith
-  written-fit (some b) e =
-      let t = taken w f room b e in
-      let k = behind w f room 0 (λ n i j l. omega arith) (t .answered) in
-      let q : some (k .message) ≡ some (t .message) = sym (k .is) ∙ t .is in
-      let m : k .message ≡ t .message = cc in
-      let z : k .message .body ≡ b = ap (λ x. x .body) m ∙ t .body in
-      let p = asked-passed (question17 w (k .message .body)) 17 _ 0 (λ n. omega arith) (k .rest) in
-      let r = asked-passed (question18 w (k .message .body) room) 18 _ 0 (λ n. omega arith) (p .1) in
-      subst (λ (x : Body). length (written w x) ≤ room) z (leb-true _ room (r .0))
-
-  pub records-fit : length (recordsOf w f room) ≤ room
-  unfolding recordsOf
-  records-fit = written-fit (accepted w f room) refl
 
 -- with a list for 1,024 records
 module _ (w after : World) (f : Fields) (r : Reply) (lent out : List ℤ) (long : length lent ≡ recordPlaces * 6) (p : Replied w after f r lent out) where

@@ -303,10 +303,15 @@ pub extern "C" fn settlement_book_periods_within(
         Whole w → PeriodsIn w point element r (left count) (was rows) (left rows)) ⌝ }
 {
     let held = book_of(book);
+    let asked = number(ask_pair(held, point, element));
+    if asked != 0 {
+        *count = 0;
+        return asked;
+    }
     let part = queries::periods(held, links, point, element);
     copy_front(part, rows);
     *count = part.len() as u64;
-    number(ask_pair(held, point, element))
+    0
 }
 
 // The same of any book and any tables. Linear in what is lent, for the questions of the book.
