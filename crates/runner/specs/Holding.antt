@@ -81,10 +81,14 @@ pub record Reached (ended : Bool) (from : Stage) (front text : List ℕ) (p : Pr
   pub holds : Represents p t stage
   pub same : (rest : List ℕ) → (ended ≡ true → rest ≡ []) → printed from (front ++ rest) ≡ text ++ printed stage (left ++ rest)
 
+-- tag, length and value of an element with 24 prices
+abbrev pub longestField : ℕ
+longestField = 198
+
 -- where it has stopped, and why
 pub record Stopped (s : List ℕ) (ended : Bool) (out : List ℕ) (r : Ran) : Type 0 where
   pub place : r .next ≤ length s
   pub text : r .written ≤ length out
   -- more bytes are needed: the input does not end here, and fewer are left than the longest field has
-  pub waits : r .waits ≡ true → (ended ≡ false) × (length s - r .next < 198)
+  pub waits : r .waits ≡ true → (ended ≡ false) × (length s - r .next < longestField)
   pub stops : canGoOn (r .progress) (r .waits) (length out - r .written) ≡ false

@@ -1,6 +1,6 @@
--- The part of a well-formed book, copied to the front of the list.
-use mathlib.Core.Path.{sym, ap, subst, _∙_}
+-- Questions 7 and 8, then the part of a well-formed book, copied to the front of the list.
 use Prim.Native.Nat.{ℕ}
+use mathlib.Core.Path.{_≡_, sym, ap, subst, _∙_}
 use mathlib.Core.List.{List}
 use native.Mathlib.Nat.{le-trans}
 use lib.ListN.{length}
@@ -8,7 +8,8 @@ use Rattle.rules.specs.declared.Book.{Book}
 use Rattle.rules.specs.Lent.{Lists, worldIn, lendLinks}
 use Rattle.rules.specs.Queries.{periodsNumber, periodsQuery}
 use Rattle.rules.specs.Whole.{Whole}
-use Rattle.queries.proofs.Asks.{periods-asks}
+use Rattle.queries.proofs.Asks.{periods-asks, periods-passed}
+use Rattle.queries.proofs.Answered.{periods-refused}
 use Rattle.settlement_book.specs.Numbers.{bookIn, frontOf}
 use Rattle.settlement_book.proofs.Answers.{periods-length}
 use borrow.Author.Needs.{needs}
@@ -27,47 +28,87 @@ held-whole : (c : tie.After-book-of) (o : Lists) → Whole (worldIn (bookIn (sta
     → Whole (worldIn (c .book-of .result) (lent (start-of c) o))
 held-whole c o h = subst (λ (b : Book). Whole (worldIn b (lent (start-of c) o))) (sym (c .book-of .ensures)) h
 
+abbrev named-of : tie.After-number → tie.After-book-of
+named-of c = search
+
+-- the code's question is the query's
+asked : (c : tie.After-number) (o : Lists) → Whole (worldIn (bookIn (start-of (named-of c) .args .book .now)) (lent (start-of (named-of c)) o))
+    → c .number .result
+    ≡ periodsNumber (worldIn (named-of c .book-of .result) (lent (start-of (named-of c)) o)) (start-of (named-of c) .args .point) (start-of (named-of c) .args .element)
+asked c o whole =
+    let pair : tie.After-ask-pair = search in
+    c .number .ensures ∙ pair .ask-pair .ensures
+    ∙ periods-asks (worldIn (named-of c .book-of .result) (lent (start-of (named-of c)) o)) (held-whole (named-of c) o whole) _ _
+
+abbrev found-of : tie.After-copy-front → tie.After-periods
+found-of c = search
+
+abbrev numbered-of : tie.After-copy-front → tie.After-number
+numbered-of c = search
+
+abbrev passed-of : tie.After-copy-front → tie.Else1
+passed-of c = search
+
 book-of-requires : tie.Need-book-of-requires
 book-of-requires c κs = search needs
 
-periods-requires : tie.Need-periods-requires
-periods-requires c κs =
-    let named : tie.After-book-of = search in
-    let start = start-of named in
-    (start .pre .1 .0, held-whole named (start .pre .1 .0) (start .pre .1 .1))
-copy-front-requires : tie.Need-copy-front-requires
-copy-front-requires c κs =
-    let named : tie.After-book-of = search in
-    let found : tie.After-periods = search in
-    let start = start-of named in
-    let o = start .pre .1 .0 in
-    rw (found .periods .ensures o (held-whole named o (start .pre .1 .1)))
-    (le-trans (periods-length (worldIn (named .book-of .result) (lent start o)) _ _) (start .pre .0 .1))
 ask-pair-requires : tie.Need-ask-pair-requires
 ask-pair-requires c κs = search needs
 
 number-requires : tie.Need-number-requires
 number-requires c κs = search needs
 
+returns : tie.Need-returns
+returns c o whole =
+    let numbered : tie.After-number = search in
+    let no : tie.Then1 = search in
+    let named = named-of numbered in
+    let start = start-of named in
+    let a = start .args in
+    let n = asked numbered o whole ∙ ap (λ (b : Book). periodsNumber (worldIn b (lent start o)) (a .point) (a .element)) (named .book-of .ensures) in
+    let q = periods-refused (worldIn (bookIn (a .book .now)) (lent start o)) (a .point) (a .element) (λ z. no .if1 .taken (n ∙ z)) in
+    record { number = n; count = ap length q; rows = ap (λ (x : List ℕ). frontOf x (a .rows .now)) q }
+
+periods-requires : tie.Need-periods-requires
+periods-requires c κs =
+    let numbered : tie.After-number = search in
+    let yes : tie.Else1 = search in
+    let named = named-of numbered in
+    let start = start-of named in
+    let o = start .pre .1 .0 in
+    ((o, held-whole named o (start .pre .1 .1)),
+    periods-passed (worldIn (named .book-of .result) (lent start o)) _ _ (sym (asked numbered o (start .pre .1 .1)) ∙ yes .if1 .left) .1)
+
+copy-front-requires : tie.Need-copy-front-requires
+copy-front-requires c κs =
+    let found : tie.After-periods = search in
+    let numbered : tie.After-number = search in
+    let named = named-of numbered in
+    let start = start-of named in
+    let o = start .pre .1 .0 in
+    rw (found .periods .ensures o (held-whole named o (start .pre .1 .1)))
+    (le-trans (periods-length (worldIn (named .book-of .result) (lent start o)) _ _) (start .pre .0 .1))
+
 same-length : tie.Need-same-length
 same-length c = search needs
 
-returns : tie.Need-returns
-returns c o whole =
-    let named : tie.After-book-of = search in
-    let found : tie.After-periods = search in
+returns-2 : tie.Need-returns-2
+returns-2 c o whole =
     let copied : tie.After-copy-front = search in
-    let asked : tie.After-ask-pair = search in
+    let found = found-of copied in
+    let numbered = numbered-of copied in
+    let yes = passed-of copied in
+    let named = named-of numbered in
     let start = start-of named in
+    let a = start .args in
     let e = named .book-of .ensures in
-    let w = held-whole named o whole in
-    let rows = found .periods .ensures o w
-            ∙ ap (λ (b : Book). periodsQuery (worldIn b (lent start o)) (start .args .point) (start .args .element)) e in
+    let rows = found .periods .ensures o (held-whole named o whole)
+            ∙ ap (λ (b : Book). periodsQuery (worldIn b (lent start o)) (a .point) (a .element)) e in
     record {
-      number = c .number .ensures ∙ asked .ask-pair .ensures ∙ periods-asks (worldIn (named .book-of .result) (lent start o)) w _ _
-          ∙ ap (λ (b : Book). periodsNumber (worldIn b (lent start o)) (start .args .point) (start .args .element)) e;
+      number = sym (yes .if1 .left) ∙ asked numbered o whole
+          ∙ ap (λ (b : Book). periodsNumber (worldIn b (lent start o)) (a .point) (a .element)) e;
       count = ap length rows;
-      rows = copied .copy-front .ensures ∙ ap (λ (x : List ℕ). frontOf x (start .args .rows .now)) rows;
+      rows = copied .copy-front .ensures ∙ ap (λ (x : List ℕ). frontOf x (a .rows .now)) rows;
     }
 
 pub settlement-book-periods-within-spec : {M : Type 1} → statement M
@@ -75,9 +116,10 @@ settlement-book-periods-within-spec =
     tie.close
     (tie.spec
     book-of-requires
-    periods-requires
-    copy-front-requires
     ask-pair-requires
     number-requires
+    returns
+    periods-requires
+    copy-front-requires
     same-length
-    returns)
+    returns-2)
