@@ -17,13 +17,12 @@
 //!   or `&self` holds them for the time of the call. Every number is an integer of
 //!   the same width on both sides, and no pointer is kept.
 
-use crate::calendar::days_in_month;
-use crate::{Counts, Element, Fields, Line, Month, Period, Question, Record};
+use crate::{Counts, Element, Fields, Line, Month, Period, Question, Record, days_in_month};
 
 /// Places for periods, for holders and for states.
 const PLACES: usize = 1024;
 /// What stands for no day: the number behind the last day.
-const NO_DAY: u64 = 36_525;
+const NO_DAY: u64 = settlement_file::DAY_COUNT;
 
 /// Declares exported functions that are lent the tables, with what follows those.
 /// A slice is a pointer and a length.
@@ -173,7 +172,8 @@ impl Book {
         prices: &[i64],
     ) -> Result<Book, Question> {
         // Tables at their exact lengths. Counts past their limits are question 2, which
-        // comes before the tables are looked at, so those need no room.
+        // comes before the tables are looked at, so those need no room. Were the month's
+        // days wrong, the opening would refuse the readings' length.
         let points = counts.points.min(256);
         let places = counts.suppliers.min(16) * counts.elements.min(64);
         let days = days_in_month(month.year, month.month);

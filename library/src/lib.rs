@@ -34,38 +34,12 @@
 // The one module with `unsafe`: it has the type whose privacy it relies on.
 #[allow(unsafe_code)]
 mod book;
-mod calendar;
-pub mod file;
+mod file;
 mod question;
 
 pub use book::Book;
-pub use calendar::{days_in_month, first_day};
 pub use question::Question;
-
-/// A calendar month: year 2000 to 2099, month 1 to 12.
-#[derive(Clone, Copy, Debug, PartialEq, Eq)]
-pub struct Month {
-    pub year: u64,
-    pub month: u64,
-}
-
-/// How many of each a book has: 1 to 256 points, 1 to 16 suppliers and 1 to 64
-/// elements.
-#[derive(Clone, Copy, Debug, PartialEq, Eq)]
-pub struct Counts {
-    pub points: u64,
-    pub suppliers: u64,
-    pub elements: u64,
-}
-
-/// A price element: kind 1 subscription, 2 fee or 3 tariff; owner 1 the grid
-/// company or 2 Energinet; marks 1 VAT, 2 pass-on, 4 tax and 8 hourly prices.
-#[derive(Clone, Copy, Debug, PartialEq, Eq)]
-pub struct Element {
-    pub kind: u8,
-    pub owner: u8,
-    pub marks: u8,
-}
+pub use settlement_file::{Counts, Element, Month, days_in_month, first_day};
 
 /// A message as it comes; the fields that its kind does not use are 0.
 #[derive(Clone, Copy, Debug, Default, PartialEq, Eq)]
@@ -125,6 +99,20 @@ pub struct Record {
     pub kroner: i64,
     /// 0 to 999,999,999, counting upwards from the kroner.
     pub billionths: u64,
+}
+
+impl Record {
+    /// The fields in their order.
+    pub fn numbers(&self) -> [i64; 6] {
+        [
+            self.kind as i64,
+            self.supplier as i64,
+            self.element as i64,
+            self.quantity,
+            self.kroner,
+            self.billionths as i64,
+        ]
+    }
 }
 
 /// What a supplier owes for an element.

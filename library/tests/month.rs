@@ -2,7 +2,6 @@
 //! each call against each other.
 
 use settlement_book::{Book, Counts, Element, Fields, Line, Month, Period, Question, Record};
-use settlement_book::{days_in_month, first_day};
 
 const MARCH: Month = Month {
     year: 2024,
@@ -171,17 +170,13 @@ fn an_opening_names_the_question() {
 
 #[test]
 fn every_month_opens() {
-    let mut day = 0;
     for year in 2000..2100 {
         for month in 1..=12 {
-            assert_eq!(first_day(year, month), day);
-            day += days_in_month(year, month);
             let month = Month { year, month };
             let book = Book::open(month, counts(3, 1, 1), &[element(3, 1, 0)], &prices(&[1]));
             assert_eq!(book.unwrap().month(), month);
         }
     }
-    assert_eq!(day, 36_525);
 }
 
 /// The splitmix64 sequence.

@@ -61,7 +61,7 @@ fn links() -> Vec<[u64; 9]> {
 /// The typical month with its points behind a further point 0.
 pub fn month(points: u64, seed: u64) -> Input {
     let mut input = typical(points, seed);
-    input.opening.points += 1;
+    input.opening.counts.points += 1;
     for batch in &mut input.batches {
         for fields in &mut batch.messages {
             if fields[0] != 8 {

@@ -3,6 +3,7 @@
 //! so that a kind can be timed.
 
 use crate::random::Random;
+use settlement_file::{Counts, Element, Month, Opening};
 
 /// Row of the table for rounds without differences; those of messages are the kinds.
 pub const EMPTY_ROUNDS: usize = 9;
@@ -23,68 +24,20 @@ const SUBSCRIPTION: u8 = 1;
 const FEE: u8 = 2;
 const TARIFF: u8 = 3;
 
+/// The mark of an element with hourly prices.
+const HOURLY: u8 = 8;
+
 const GRID_COMPANY: u64 = 1;
 const ENERGINET: u64 = 2;
 const SUPPLIER: u64 = 3;
 
-/// March 2024.
-const YEAR: u64 = 2024;
-const MONTH: u64 = 3;
+const MARCH: Month = Month {
+    year: 2024,
+    month: 3,
+};
 pub const FIRST: u64 = 8826;
 pub const DAYS: u64 = 31;
 const LAST: u64 = FIRST + DAYS - 1;
-
-#[derive(Clone)]
-pub struct Element {
-    pub kind: u8,
-    pub owner: u8,
-    pub marks: u8,
-    /// 24 where the element is hourly, else the first and zeros.
-    pub prices: [i64; 24],
-}
-
-impl Element {
-    pub fn is_hourly(&self) -> bool {
-        self.marks & 8 != 0
-    }
-}
-
-#[derive(Clone)]
-pub struct Opening {
-    pub year: u64,
-    pub month: u64,
-    pub points: u64,
-    pub suppliers: u64,
-    pub elements: Vec<Element>,
-}
-
-impl Opening {
-    pub fn month(&self) -> twin::Month {
-        twin::Month {
-            year: self.year,
-            month: self.month,
-        }
-    }
-
-    pub fn counts(&self) -> twin::Counts {
-        twin::Counts {
-            points: self.points,
-            suppliers: self.suppliers,
-            elements: self.elements.len() as u64,
-        }
-    }
-
-    /// The elements, and 24 prices for each.
-    pub fn tables(&self) -> (Vec<twin::Element>, Vec<i64>) {
-        let elements = self.elements.iter().map(|element| twin::Element {
-            kind: element.kind,
-            owner: element.owner,
-            marks: element.marks,
-        });
-        let prices = self.elements.iter().flat_map(|element| element.prices);
-        (elements.collect(), prices.collect())
-    }
-}
 
 /// Messages of one kind that stand together.
 pub struct Batch {
@@ -106,17 +59,18 @@ impl Input {
 
     /// The month as a file of document 01.
     pub fn file(&self) -> Vec<u8> {
-        let opening = &self.opening;
+        let Opening { month, counts, .. } = self.opening;
         let mut bytes = vec![1, 0, 6];
-        bytes.extend((opening.year as u16).to_be_bytes());
-        bytes.push(opening.month as u8);
-        bytes.extend((opening.points as u16).to_be_bytes());
-        bytes.push(opening.suppliers as u8);
-        for element in &opening.elements {
-            let price_count = if element.is_hourly() { 24 } else { 1 };
+        bytes.extend((month.year as u16).to_be_bytes());
+        bytes.push(month.month as u8);
+        bytes.extend((counts.points as u16).to_be_bytes());
+        bytes.push(counts.suppliers as u8);
+        let prices = self.opening.prices.chunks_exact(24);
+        for (element, prices) in self.opening.elements.iter().zip(prices) {
+            let price_count = if element.marks & HOURLY != 0 { 24 } else { 1 };
             bytes.extend([2, 0, 3 + 8 * price_count as u8]);
             bytes.extend([element.kind, element.owner, element.marks]);
-            for price in &element.prices[..price_count] {
+            for price in &prices[..price_count] {
                 bytes.extend(price.to_be_bytes());
             }
         }
@@ -146,21 +100,26 @@ struct Writer {
 
 impl Writer {
     fn new(points: u64, suppliers: u64, element_count: u64, seed: u64) -> Writer {
-        let opening = Opening {
-            year: YEAR,
-            month: MONTH,
+        let counts = Counts {
             points,
             suppliers,
-            elements: (0..element_count).map(element).collect(),
+            elements: element_count,
         };
-        let (elements, prices) = opening.tables();
-        let book = match twin::open(opening.month(), opening.counts(), &elements, &prices) {
+        let (elements, prices): (Vec<Element>, Vec<[i64; 24]>) =
+            (0..element_count).map(element).unzip();
+        let prices = prices.concat();
+        let book = match twin::open(MARCH, counts, &elements, &prices) {
             Ok(book) => book,
             Err(question) => panic!("the opening is refused by question {question}"),
         };
         Writer {
             book,
-            opening,
+            opening: Opening {
+                month: MARCH,
+                counts,
+                elements,
+                prices,
+            },
             batches: Vec::new(),
             random: Random::new(seed),
         }
@@ -222,7 +181,7 @@ impl Writer {
     /// Every hour of the month, as days go by.
     fn all_readings(&mut self) {
         for day in FIRST..=LAST {
-            for point in 0..self.opening.points {
+            for point in 0..self.opening.counts.points {
                 for hour in 0..24 {
                     self.reading(point, day, hour);
                 }
@@ -232,7 +191,7 @@ impl Writer {
 
     fn some_readings(&mut self, count: u64) {
         for _ in 0..count {
-            let point = self.random.below(self.opening.points);
+            let point = self.random.below(self.opening.counts.points);
             let day = self.random.between(FIRST, LAST);
             let hour = self.random.below(24);
             self.reading(point, day, hour);
@@ -240,7 +199,7 @@ impl Writer {
     }
 
     fn elements_of(&self, kinds: &[u8]) -> Vec<u64> {
-        (0..self.opening.elements.len() as u64)
+        (0..self.opening.counts.elements)
             .filter(|e| kinds.contains(&self.opening.elements[*e as usize].kind))
             .collect()
     }
@@ -264,12 +223,12 @@ pub fn empty_rounds(count: usize) -> Batch {
     }
 }
 
-/// The elements repeat after twelve, at other prices.
-fn element(number: u64) -> Element {
+/// The elements repeat after twelve, at other prices: 24 where an element is hourly,
+/// else the first and zeros.
+fn element(number: u64) -> (Element, [i64; 24]) {
     const VAT: u8 = 1;
     const PASS_ON: u8 = 2;
     const TAX: u8 = 4;
-    const HOURLY: u8 = 8;
     let (kind, owner, marks, price) = match number % 12 {
         0 => (SUBSCRIPTION, 1, VAT | PASS_ON, 21_000_000),
         1 => (TARIFF, 1, VAT | PASS_ON | HOURLY, 130_000),
@@ -297,12 +256,8 @@ fn element(number: u64) -> Element {
             };
         }
     }
-    Element {
-        kind,
-        owner,
-        marks,
-        prices,
-    }
+    let element = Element { kind, owner, marks };
+    (element, prices)
 }
 
 /// 2 points, 2 suppliers, 3 elements: a month of readings, then a hundred times

@@ -1,13 +1,14 @@
 //! What a settlement is to the measurements, and the timing of one.
 
 use crate::growth::{Cost, costs};
-use crate::inputs::{Input, MOST_IN_BATCH, Opening, empty_rounds};
+use crate::inputs::{Input, MOST_IN_BATCH, empty_rounds};
+use settlement_file::{Counts, Opening};
 use std::hint::black_box;
 use std::time::Instant;
 
 /// One difference that a round sends: kind, supplier, element, quantity, kroner
 /// and billionths.
-pub type Record = (u64, u64, u64, i64, i64, u64);
+pub type Record = [i64; 6];
 
 pub trait Settlement: Sized {
     /// Of the line queries and of the rounds without differences, one in so many is
@@ -88,14 +89,14 @@ fn check<S: Settlement>(input: &Input) -> Outcome {
             }
         }
     }
-    let opening = &input.opening;
-    for supplier in 1..=opening.suppliers {
-        for element in 0..opening.elements.len() as u64 {
+    let counts = input.opening.counts;
+    for supplier in 1..=counts.suppliers {
+        for element in 0..counts.elements {
             outcome.lines.push(settlement.line(supplier, element));
         }
     }
-    for point in 0..opening.points {
-        for element in 0..opening.elements.len() as u64 {
+    for point in 0..counts.points {
+        for element in 0..counts.elements {
             outcome
                 .periods
                 .push(settlement.period_count(point, element));
@@ -158,8 +159,11 @@ fn by_kind<S: Settlement>(input: &Input) -> Timing {
         });
     }
 
-    let (points, suppliers) = (input.opening.points, input.opening.suppliers);
-    let elements = input.opening.elements.len() as u64;
+    let Counts {
+        points,
+        suppliers,
+        elements,
+    } = input.opening.counts;
     let lines: Vec<(u64, u64)> = (0..QUERIES / S::SHARE as u64)
         .map(|n| (1 + n / elements % suppliers, n % elements))
         .collect();

@@ -1,9 +1,9 @@
 //! The proved settlement, through the safe wrapper of its static library: messages
 //! and queries of a book that is well formed.
 
-use crate::inputs::Opening;
 use crate::settlement::{Record, Settlement};
-use settlement_book::{Book, Counts, Element, Fields, Month};
+use settlement_book::{Book, Fields};
+use settlement_file::Opening;
 
 pub struct Library {
     book: Book,
@@ -13,23 +13,8 @@ pub struct Library {
 
 impl Settlement for Library {
     fn open(opening: &Opening) -> Self {
-        let month = Month {
-            year: opening.year,
-            month: opening.month,
-        };
-        let counts = Counts {
-            points: opening.points,
-            suppliers: opening.suppliers,
-            elements: opening.elements.len() as u64,
-        };
-        let elements = opening.elements.iter().map(|element| Element {
-            kind: element.kind,
-            owner: element.owner,
-            marks: element.marks,
-        });
-        let elements: Vec<Element> = elements.collect();
-        let prices: Vec<i64> = opening.elements.iter().flat_map(|e| e.prices).collect();
-        match Book::open(month, counts, &elements, &prices) {
+        let (elements, prices) = (&opening.elements, &opening.prices);
+        match Book::open(opening.month, opening.counts, elements, prices) {
             Ok(book) => Library {
                 book,
                 records: Vec::with_capacity(1024),
@@ -51,17 +36,10 @@ impl Settlement for Library {
     }
 
     fn records(&self) -> Vec<Record> {
-        let numbers = |r: &settlement_book::Record| {
-            (
-                r.kind,
-                r.supplier,
-                r.element,
-                r.quantity,
-                r.kroner,
-                r.billionths,
-            )
-        };
-        self.records.iter().map(numbers).collect()
+        self.records
+            .iter()
+            .map(settlement_book::Record::numbers)
+            .collect()
     }
 
     #[inline]

@@ -1,9 +1,8 @@
 //! The settlement with SQLite, its database in memory: lines updated by each message,
 //! or summed by each round and line query.
 
-use crate::inputs::Opening;
 use crate::settlement::{Record, Settlement};
-use crate::with_twin::numbers_of;
+use settlement_file::Opening;
 use sqlite::{Book, Lines};
 
 pub struct Sqlite<const SUMS: bool> {
@@ -15,10 +14,10 @@ impl<const SUMS: bool> Settlement for Sqlite<SUMS> {
     const SHARE: usize = if SUMS { 100 } else { 1 };
 
     fn open(opening: &Opening) -> Self {
-        let (elements, prices) = opening.tables();
-        let (month, counts) = (opening.month(), opening.counts());
+        let (elements, prices) = (&opening.elements, &opening.prices);
+        let (month, counts) = (opening.month, opening.counts);
         let lines = if SUMS { Lines::Summed } else { Lines::Updated };
-        match Book::open(":memory:", lines, month, counts, &elements, &prices) {
+        match Book::open(":memory:", lines, month, counts, elements, prices) {
             Ok(book) => Sqlite {
                 book,
                 records: Vec::with_capacity(1024),
@@ -34,7 +33,7 @@ impl<const SUMS: bool> Settlement for Sqlite<SUMS> {
     }
 
     fn records(&self) -> Vec<Record> {
-        self.records.iter().map(numbers_of).collect()
+        self.records.iter().map(twin::Record::numbers).collect()
     }
 
     fn line(&self, supplier: u64, element: u64) -> (i64, i64, u64) {

@@ -1,7 +1,8 @@
 //! The settlement of `twin`.
 
-use crate::inputs::Opening;
 use crate::settlement::{Record, Settlement};
+use settlement_file::Opening;
+use twin::two_parts;
 
 pub struct Twin {
     book: twin::Book,
@@ -10,8 +11,8 @@ pub struct Twin {
 
 impl Settlement for Twin {
     fn open(opening: &Opening) -> Self {
-        let (elements, prices) = opening.tables();
-        match twin::open(opening.month(), opening.counts(), &elements, &prices) {
+        let (elements, prices) = (&opening.elements, &opening.prices);
+        match twin::open(opening.month, opening.counts, elements, prices) {
             Ok(book) => Twin {
                 book,
                 records: Vec::with_capacity(1024),
@@ -27,7 +28,7 @@ impl Settlement for Twin {
     }
 
     fn records(&self) -> Vec<Record> {
-        self.records.iter().map(numbers_of).collect()
+        self.records.iter().map(twin::Record::numbers).collect()
     }
 
     #[inline]
@@ -52,33 +53,5 @@ impl Settlement for Twin {
             .ok()
             .flatten()
             .map(u64::from)
-    }
-}
-
-pub fn numbers_of(record: &twin::Record) -> Record {
-    let (kroner, billionths) = two_parts(record.amount);
-    (
-        u64::from(record.kind),
-        u64::from(record.supplier),
-        u64::from(record.element),
-        record.quantity,
-        kroner,
-        billionths,
-    )
-}
-
-/// Whole kroner, rounded down, and billionths that count upwards.
-#[inline]
-fn two_parts(amount: i128) -> (i64, u64) {
-    // Nearly all amounts fit 64 bits, where a division is much faster.
-    match i64::try_from(amount) {
-        Ok(amount) => (
-            amount.div_euclid(1_000_000_000),
-            amount.rem_euclid(1_000_000_000) as u64,
-        ),
-        Err(_) => (
-            amount.div_euclid(1_000_000_000) as i64,
-            amount.rem_euclid(1_000_000_000) as u64,
-        ),
     }
 }

@@ -5,8 +5,6 @@
 #![forbid(unsafe_code)]
 
 mod book;
-mod calendar;
-pub mod file;
+mod file;
 
-pub use book::{Book, Counts, Element, Line, MOST_POINTS, Month, Period, Record, message, open};
-pub use calendar::{DAY_COUNT, days_in_month, first_day_of_month};
+pub use book::{Book, Line, MOST_POINTS, Period, Record, message, open, two_parts};

@@ -1,6 +1,7 @@
 //! Nothing panics whatever the fields, and the largest amounts are right.
 
-use twin::{Book, Counts, Element, Month, Record, message, open};
+use settlement_file::{Counts, Element, Month, output};
+use twin::{Book, Record, message, open};
 
 fn number(state: &mut u64) -> u64 {
     *state = state.wrapping_add(0x9e37_79b9_7f4a_7c15);
@@ -137,7 +138,7 @@ fn any_bytes() {
         let bytes: Vec<u8> = (0..length)
             .map(|_| (number(&mut state) % limit) as u8)
             .collect();
-        assert!(!twin::file::output(&bytes, 16).is_empty());
+        assert!(!output::<Book>(&bytes, 16).is_empty());
     }
 }
 

@@ -82,13 +82,13 @@ struct Measured {
 fn measure_book(input: &Input, chosen: &[&Implementation], seconds: f64) -> Result<(), String> {
     check(input, chosen)?;
     let measured: Vec<Measured> = chosen.iter().map(|i| measure(input, i, seconds)).collect();
-    let opening = &input.opening;
+    let counts = input.opening.counts;
     println!(
         "\n## {}: {} points, {} suppliers, {} elements, {} messages\n",
         input.name,
-        opening.points,
-        opening.suppliers,
-        opening.elements.len(),
+        counts.points,
+        counts.suppliers,
+        counts.elements,
         input.message_count()
     );
     let mut titles = vec!["what".to_string(), "number".to_string()];

@@ -3,10 +3,10 @@
 //! them anew. The database is in memory; with `--disk FOLDER` it is a file of that
 //! folder, which is removed at the end.
 
+use settlement_file::{Opening, print_month, print_record};
 use sqlite::{Book, Lines};
 use std::io::{Read, Write};
 use std::process::ExitCode;
-use twin::file::{Field, Opening, message_fields, next_field, print_record};
 
 fn main() -> ExitCode {
     let arguments: Vec<String> = std::env::args().skip(1).collect();
@@ -44,46 +44,10 @@ fn settle(database: &str, lines: Lines) -> Result<(), String> {
         .read_to_end(&mut bytes)
         .map_err(|e| e.to_string())?;
     let mut rest = &bytes[..];
-    let Some(Field::Month(month)) = next_field(&mut rest) else {
-        return Err("no month".to_string());
-    };
-    let mut opening = Opening::new(month);
-    let mut printed = Vec::new();
-    let mut records = Vec::new();
-    let mut open_book: Option<Book> = None;
-    while !rest.is_empty() {
-        match (next_field(&mut rest), &mut open_book) {
-            (Some(Field::Element(value)), None) => opening.add_element(value),
-            (Some(Field::Message(value)), _) => {
-                let book = match &mut open_book {
-                    Some(book) => book,
-                    None => open_book.insert(open(database, lines, &opening, &mut printed)?),
-                };
-                book.message(&message_fields(value), &mut records);
-                for record in records.drain(..) {
-                    print_record(&mut printed, &record);
-                }
-            }
-            _ => return Err("a field is broken or out of order".to_string()),
-        }
-    }
-    let book = match open_book {
-        Some(book) => book,
-        None => open(database, lines, &opening, &mut printed)?,
-    };
-    book.commit()?;
-    std::io::stdout()
-        .write_all(&printed)
-        .map_err(|e| e.to_string())
-}
-
-fn open(
-    database: &str,
-    lines: Lines,
-    opening: &Opening,
-    printed: &mut Vec<u8>,
-) -> Result<Book, String> {
-    let book = Book::open(
+    let broken = |_| "a field is broken or out of order".to_string();
+    let mut opening = Opening::read_month(&mut rest).map_err(|_| "no month".to_string())?;
+    let messages = opening.read_elements(rest).map_err(broken)?;
+    let mut book = Book::open(
         database,
         lines,
         opening.month,
@@ -91,8 +55,17 @@ fn open(
         &opening.elements,
         &opening.prices,
     )?;
-    let (year, month) = (opening.month.year, opening.month.month);
-    let line = format!("book {year} {month} {} {}\n", book.days(), book.first_day());
-    printed.extend(line.as_bytes());
-    Ok(book)
+    let mut printed = Vec::new();
+    print_month(&mut printed, opening.month);
+    let mut records = Vec::new();
+    for message in messages {
+        book.message(&message.map_err(broken)?.fields(), &mut records);
+        for record in records.drain(..) {
+            print_record(&mut printed, record.numbers());
+        }
+    }
+    book.commit()?;
+    std::io::stdout()
+        .write_all(&printed)
+        .map_err(|e| e.to_string())
 }

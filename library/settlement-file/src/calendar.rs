@@ -1,9 +1,10 @@
 //! Days of document 01: day 0 is 1 January 2000.
 
 /// One more than the last day, 31 December 2099.
-pub const DAY_COUNT: u32 = 36_525;
+pub const DAY_COUNT: u64 = 36_525;
 
-pub fn days_in_month(year: u64, month: u64) -> u32 {
+/// How many days a month of the years 2000 to 2099 has.
+pub fn days_in_month(year: u64, month: u64) -> u64 {
     match month {
         4 | 6 | 9 | 11 => 30,
         // 2000 is a leap year and 2100 is outside, so every fourth year is one.
@@ -13,12 +14,11 @@ pub fn days_in_month(year: u64, month: u64) -> u32 {
     }
 }
 
-/// First day of a month of the years 2000 to 2099.
-pub fn first_day_of_month(year: u64, month: u64) -> u32 {
-    let years = (year - 2000) as u32;
-    let leap_days = years.div_ceil(4);
-    let months: u32 = (1..month).map(|m| days_in_month(year, m)).sum();
-    years * 365 + leap_days + months
+/// The first day of a month of the years 2000 to 2099.
+pub fn first_day(year: u64, month: u64) -> u64 {
+    let years = year.saturating_sub(2000);
+    let months: u64 = (1..month).map(|m| days_in_month(year, m)).sum();
+    years * 365 + years.div_ceil(4) + months
 }
 
 #[cfg(test)]
@@ -30,11 +30,11 @@ mod tests {
         let mut day = 0;
         for year in 2000..2100 {
             for month in 1..=12 {
-                assert_eq!(first_day_of_month(year, month), day);
+                assert_eq!(first_day(year, month), day);
                 day += days_in_month(year, month);
             }
         }
         assert_eq!(day, DAY_COUNT);
-        assert_eq!(first_day_of_month(2024, 3), 8826);
+        assert_eq!(first_day(2024, 3), 8826);
     }
 }

@@ -1,0 +1,99 @@
+//! What `settle` prints for a file.
+
+use crate::{Counts, Element, Month, Opening, days_in_month, first_day};
+use std::io::{Read, Write};
+use std::process::ExitCode;
+
+/// The month and every count are within their limits.
+const OUT_OF_LIMITS: u64 = 2;
+
+/// A book that a file is settled with. An error is the number of the first question
+/// that says no.
+pub trait Settle: Sized {
+    /// Opens a month with 24 prices for each element, or gives question 2, 3 or 4.
+    fn open(
+        month: Month,
+        counts: Counts,
+        elements: &[Element],
+        prices: &[i64],
+    ) -> Result<Self, u64>;
+
+    /// Takes a message of kind, role, sender, received, point, element, day, hour and
+    /// value. Where a round is accepted, hands out each of its records: kind, supplier,
+    /// element, quantity, kroner and billionths.
+    fn message(&mut self, fields: &[u64; 9], each: impl FnMut([i64; 6])) -> Result<(), u64>;
+}
+
+/// What `settle` prints for these bytes; `settle` takes at most 16 points.
+pub fn output<B: Settle>(bytes: &[u8], most_points: u64) -> Vec<u8> {
+    let mut printed = Vec::new();
+    if let Err(question) = run::<B>(bytes, most_points, &mut printed) {
+        print_refused(&mut printed, 0, question);
+    }
+    printed
+}
+
+/// Runs to the end, or to the question from 1 to 4 that ends the run.
+fn run<B: Settle>(mut bytes: &[u8], most_points: u64, printed: &mut Vec<u8>) -> Result<(), u64> {
+    let mut opening = Opening::read_month(&mut bytes)?;
+    let messages = opening.read_elements(bytes)?;
+    let Opening { month, counts, .. } = opening;
+    if counts.points > most_points {
+        return Err(OUT_OF_LIMITS);
+    }
+    let mut book = B::open(month, counts, &opening.elements, &opening.prices)?;
+    print_month(printed, month);
+    for (number, message) in (1..).zip(messages) {
+        let answer = book.message(&message?.fields(), |record| print_record(printed, record));
+        if let Err(question) = answer {
+            print_refused(printed, number, question);
+        }
+    }
+    Ok(())
+}
+
+/// The line of an open book.
+pub fn print_month(printed: &mut Vec<u8>, Month { year, month }: Month) {
+    let (days, first) = (days_in_month(year, month), first_day(year, month));
+    print(
+        printed,
+        format_args!("book {year} {month} {days} {first}\n"),
+    );
+}
+
+/// The line of a record: kind, supplier, element, quantity, kroner and billionths.
+pub fn print_record(printed: &mut Vec<u8>, record: [i64; 6]) {
+    let [kind, supplier, element, quantity, kroner, billionths] = record;
+    print(
+        printed,
+        format_args!("record {kind} {supplier} {element} {quantity} {kroner} {billionths}\n"),
+    );
+}
+
+fn print_refused(printed: &mut Vec<u8>, number: u64, question: u64) {
+    print(printed, format_args!("refused {number} {question}\n"));
+}
+
+fn print(printed: &mut Vec<u8>, text: std::fmt::Arguments<'_>) {
+    // Writing to a vector does not fail.
+    let _ = printed.write_fmt(text);
+}
+
+/// A program that reads a file from standard input and prints what `settle` prints.
+/// Its arguments `--most-points N` let a file have more than the 16 points of `settle`.
+pub fn program<B: Settle>(name: &str) -> std::io::Result<ExitCode> {
+    let arguments: Vec<String> = std::env::args().skip(1).collect();
+    let most_points = match &arguments[..] {
+        [] => Some(16),
+        [name, number] if name == "--most-points" => number.parse().ok(),
+        _ => None,
+    };
+    let Some(most_points) = most_points else {
+        eprintln!("{name} [--most-points N] < FILE");
+        return Ok(ExitCode::from(2));
+    };
+    let mut bytes = Vec::new();
+    std::io::stdin().read_to_end(&mut bytes)?;
+    std::io::stdout().write_all(&output::<B>(&bytes, most_points))?;
+    Ok(ExitCode::SUCCESS)
+}
