@@ -7,7 +7,6 @@ use Rattle.rules.specs.declared.Answer.the-variants.{Accepted, BrokenFie
 use Rattle.rules.specs.declared.Answer.the-variants.{OutOfRange, UnknownPoint, UnknownElement, NotPermitted, OutOfTime}
 use Rattle.rules.specs.declared.Answer.the-variants.{NotExisting, Closed, AlreadyLinked, NothingToStop, NoSuchQuantity}
 use Rattle.rules.specs.declared.Answer.the-variants.{OutsideMonth, TableFull, ListFull}
-use Rattle.rules.specs.declared.Opened.{Opened}
 use Rattle.rules.specs.declared.LineAnswer.{LineAnswer}
 use Rattle.rules.specs.declared.DayAnswer.{DayAnswer}
 use Rattle.rules.specs.World.{World}
@@ -34,11 +33,6 @@ numberOf NoSuchQuantity = 15
 numberOf OutsideMonth = 16
 numberOf TableFull = 17
 numberOf ListFull = 18
-
--- an opening's number
-abbrev pub openedNumber : Opened → ℕ
-openedNumber (Opened.Book b) = 0
-openedNumber (Opened.Refused a) = numberOf a
 
 -- a line query's number and values
 abbrev pub lineResult : LineAnswer → LineResult

@@ -233,12 +233,6 @@ pub enum Answer {
     ListFull,
 }
 
-// What an opening answers: the book, or the question that says no.
-pub enum Opened {
-    Book(Book),
-    Refused(Answer),
-}
-
 // What the line query answers.
 pub enum LineAnswer {
     Line {

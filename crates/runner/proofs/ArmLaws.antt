@@ -94,12 +94,12 @@ module _ (b : Book) (t : Lists) (e : Ends) (q : e ≡ endsOf b) (s : Sized t) (g
   arm-message at next number bytes lent records long p c k out after from a v z =
       let room : roomIn lent ≡ recordPlaces = omega arith in
       let w : frontsWorld (r .book) (putBack e t x) ≡ step (frontsWorld b t) f recordPlaces =
-          message-world recordPlaces (p .world ∙ ap (step (worldIn b (cutTo e t)) f) room) in
+      message-world recordPlaces (p .world ∙ ap (step (worldIn b (cutTo e t)) f) room) in
       let c′ : Whole (step (frontsWorld b t) f recordPlaces) =
-          subst (λ (y : World). Whole y) (p .world ∙ ap (step (worldIn b (cutTo e t)) f) room ∙ ap (λ (y : Ends). step (worldIn b (cutTo y t)) f recordPlaces) q) c in
+      subst (λ (y : World). Whole y) (p .world ∙ ap (step (worldIn b (cutTo e t)) f) room ∙ ap (λ (y : Ends). step (worldIn b (cutTo y t)) f recordPlaces) q) c in
       let text : replyText r number records ≡ answered (frontsWorld b t) f number =
-          reply-text (worldIn b (cutTo e t)) (worldIn (r .book) parts) f r lent records long p number
-          ∙ ap (λ (y : Ends). answered (worldIn b (cutTo y t)) f number) q in
+      reply-text (worldIn b (cutTo e t)) (worldIn (r .book) parts) f r lent records long p number
+      ∙ ap (λ (y : Ends). answered (worldIn b (cutTo y t)) f number) q in
       record {
         holds = (
           ap (λ (y : Advanced). y .progress .over) z,

@@ -53,9 +53,15 @@ too-many o h = cases (withinLimits o) (λ t. let l = limits o t in absurd (omega
 lent-sized : (o : Opening) → openingSized o ≡ true → question3 (lent o) ≡ true
 unfolding question3 lent tablesSized linesSized tableOf
 lent-sized o h =
-    rw (h, length-replicate {A = ℕ} (readingCount o) 0, eq-eqb (readingCount o) (readingCount o) refl,
-      length-replicate {A = ℕ} (o .points) 0, eq-eqb (o .points) (o .points) refl,
-      length-replicate (linePlaces o) (pos 0), eq-eqb (linePlaces o) (linePlaces o) refl)
+    rw (
+      h,
+      length-replicate {A = ℕ} (readingCount o) 0,
+      eq-eqb (readingCount o) (readingCount o) refl,
+      length-replicate {A = ℕ} (o .points) 0,
+      eq-eqb (o .points) (o .points) refl,
+      length-replicate (linePlaces o) (pos 0),
+      eq-eqb (linePlaces o) (linePlaces o) refl,
+    )
 
 front-sized : {A : Type 0} (n : ℕ) (xs : List A) → n ≤ length xs → eqb (length (take n xs)) n ≡ true
 front-sized n xs h = eq-eqb (length (take n xs)) n (length-take-le n xs h)
@@ -105,11 +111,16 @@ module _ (b : Book) (t : Lists) (s : Sized t) (h : settleAnswer (frontsOpening b
   unfolding question3 endsOf tablesSized linesSized readingCount linePlaces lineCount monthDays
   parts-sized =
       let f = within b settled-fitted (endsOf b) refl t s in
-      rw (settles (frontsOpening b t) h .sized, s .links, s .holders, s .states,
+      rw (
+        settles (frontsOpening b t) h .sized,
+        s .links,
+        s .holders,
+        s .states,
         front-sized (b .points * daysOfMonth (b .year) (b .month) * 24) (t .readings) (f .readings),
         front-sized (b .points) (t .blocks) (f .blocks),
         front-sized (b .suppliers * b .elements * 3) (t .lines) (f .lines),
-        front-sized (b .suppliers * b .elements * 3) (t .sent) (f .sent))
+        front-sized (b .suppliers * b .elements * 3) (t .sent) (f .sent),
+      )
 
   opens-parts : openingAnswer (frontsWorld (anew b) t) ≡ 0
   unfolding openingAnswer question2 question4 ask rowsFit endsOf lent
@@ -172,7 +183,7 @@ module _ (b : Book) (t : Lists) (h : Heading) (values : List (List ℕ)) (v : Ho
           let k : settleAnswer (frontsOpening b t) ≡ 0 = sym a ∙ z in
           let p = settles (frontsOpening b t) k in
           let same : frontsWorld b t′ ≡ opened (lent (frontsOpening b t)) =
-              ap (λ (x : Book). frontsWorld x t′) (sym fresh-again) ∙ opened-parts b t s k t′ (c z) in
+          ap (λ (x : Book). frontsWorld x t′) (sym fresh-again) ∙ opened-parts b t s k t′ (c z) in
           rw (← opening-in at (openedTo last), e, z, k) (record {
             holds = opened-holds (opened (lent (frontsOpening b t))) last (record { world = sym same; whole = p .whole; points = p .points });
             text = loosened (omega arith) (rw z at w);

@@ -105,10 +105,12 @@ pub record AsLong (e : Ends) (t x : Lists) : Type 0 where
 pub parts-back : (e : Ends) (t x : Lists) → Within e t → AsLong e t x
     → cutTo e (putBack e t x) ≡ lendElements (take (e .described) (t .elementData)) (take (e .priced) (t .prices)) x
 parts-back e t x v l =
-    rw (front-back (e .readings) (t .readings) (x .readings) (l .readings) (v .readings),
+    rw (
+      front-back (e .readings) (t .readings) (x .readings) (l .readings) (v .readings),
       front-back (e .blocks) (t .blocks) (x .blocks) (l .blocks) (v .blocks),
       front-back (e .lines) (t .lines) (x .lines) (l .lines) (v .lines),
-      front-back (e .lines) (t .sent) (x .sent) (l .sent) (v .sent))
+      front-back (e .lines) (t .sent) (x .sent) (l .sent) (v .sent),
+    )
 
 -- ---- a message leaves the month and the counts
 

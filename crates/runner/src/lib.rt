@@ -11,9 +11,11 @@ ghost use Rattle.runner.specs.Stages.{Stage, start, moveOn, foundAt, isM
 ghost use Rattle.runner.specs.Parts.{Sized};
 ghost use Rattle.runner.specs.Texts.{longestText, lastNumber, advancedTo};
 ghost use Rattle.runner.specs.Holding.{Represents, Stands, Advances, canGoOn, Reached, Stopped};
+
 pub mod fields;
 pub mod parts;
 pub mod texts;
+
 use crate::fields::Task;
 use crate::fields::take_field;
 use crate::fields::task_of;
@@ -146,9 +148,7 @@ pub fn advance(
         Task::Open { last } => {
             let question = number(ask_opening(book, element_data, prices));
             if question == 0 {
-                clear_parts(
-                    book, links, holders, states, readings, blocks, lines, sent,
-                );
+                clear_parts(book, links, holders, states, readings, blocks, lines, sent);
                 return opening_done(book, question, last, at, out, from);
             }
             opening_done(book, question, last, at, out, from)

@@ -27,9 +27,13 @@ pub const SETTLE_POINTS: u64 = 16;
 
 // The places of each table, for 64 elements, 16 suppliers, and 16 points of 31 days of 24 hours.
 pub const DATA_PLACES: usize = MOST_ELEMENTS as usize * ELEMENT_SIZE;
+
 pub const PRICE_TABLE_PLACES: usize = MOST_ELEMENTS as usize * PRICE_PLACES;
+
 pub const READING_PLACES: usize = 16 * 31 * HOUR_PLACES;
+
 pub const BLOCK_PLACES: usize = 16;
+
 pub const LINE_TABLE_PLACES: usize = MOST_LINES * LINE_SIZE;
 // Six numbers for each of 1,024 records.
 pub const RECORD_PLACES: usize = 1024 * RECORD_SIZE;

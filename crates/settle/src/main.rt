@@ -6,7 +6,14 @@ ghost use lib.ListN.{length, take, drop};
 ghost use Rattle.rules.specs.Lent.{left, was};
 use libc::STDIN_FILENO;
 use libc::STDOUT_FILENO;
+use rules::PLACES;
 use runner::begin;
+use runner::parts::BLOCK_PLACES;
+use runner::parts::DATA_PLACES;
+use runner::parts::LINE_TABLE_PLACES;
+use runner::parts::PRICE_TABLE_PLACES;
+use runner::parts::READING_PLACES;
+use runner::parts::RECORD_PLACES;
 use runner::run;
 
 // The bytes from `at` up to `have` come to the front of the buffer; how many there are.
@@ -34,18 +41,16 @@ fn read_more(buffer: &mut [u8], have: usize) -> usize
     have + io::count(got, free)
 }
 
-// 16 points of 31 days of 24 hours.
-fn no_readings() -> [u32; 11904]
+fn no_readings() -> [u32; READING_PLACES]
     ensures { λ r. ⌜ 11904 ≡ length r ⌝ }
 {
-    [0; 11904]
+    [0; READING_PLACES]
 }
 
-// Six numbers for each of 1,024 records.
-fn no_records() -> [i64; 6144]
+fn no_records() -> [i64; RECORD_PLACES]
     ensures { λ r. ⌜ 6144 ≡ length r ⌝ }
 {
-    [0; 6144]
+    [0; RECORD_PLACES]
 }
 
 // Room for the longest text of a field, and as much again, so that not every field is written by itself.
@@ -57,15 +62,15 @@ fn no_text() -> [u8; 262144]
 
 // A proved loop has to end, and nothing says that the input does: the loop counts its turns down, from a number that no run uses up.
 fn main() {
-    let mut element_data = [0u8; 192];
-    let mut prices = [0i64; 1536];
-    let mut links = [0u64; 1024];
-    let mut holders = [0u64; 1024];
-    let mut states = [0u64; 1024];
+    let mut element_data = [0u8; DATA_PLACES];
+    let mut prices = [0i64; PRICE_TABLE_PLACES];
+    let mut links = [0u64; PLACES];
+    let mut holders = [0u64; PLACES];
+    let mut states = [0u64; PLACES];
     let mut readings = no_readings();
-    let mut blocks = [0u8; 16];
-    let mut lines = [0i64; 3072];
-    let mut sent = [0i64; 3072];
+    let mut blocks = [0u8; BLOCK_PLACES];
+    let mut lines = [0i64; LINE_TABLE_PLACES];
+    let mut sent = [0i64; LINE_TABLE_PLACES];
     let mut records = no_records();
     let mut out = no_text();
     let mut buffer = io::large_buffer();

@@ -148,12 +148,12 @@ module _ (b : Book) (o : Lists) (body : Body) (qs vs : List ℤ) (p : Rules (ope
       record {
         number-is = rw h;
         world = rw h (recorded-world b r o (lendLines lines after) body (recorded-lines lines x) d y
-        ∙ ap₂ (λ (l z : List ℤ).
-          record {
-            opening = openingIn b o;
-            position = record { tables = v; lines = l };
-            sent = record { totals = z; round = b .round };
-          }) (e ∙ lines-moved) s);
+            ∙ ap₂ (λ (l z : List ℤ).
+            record {
+              opening = openingIn b o;
+              position = record { tables = v; lines = l };
+              sent = record { totals = z; round = b .round };
+            }) (e ∙ lines-moved) s);
       }
 
 -- a refusal leaves the world as it was

@@ -133,7 +133,7 @@ pub replied-applied : (w after : World) → Whole w → (f : Fields) (r : Reply)
 unfolding ask
 replied-applied w after c f r lent m u p b h o g k =
     let e : answer w f (roomIn lent) ≡ ask (question17 w b) 17 0 =
-        answer-rest w c f (roomIn lent) m u p ∙ rw (h, other-fits w b (roomIn lent) o) in
+    answer-rest w c f (roomIn lent) m u p ∙ rw (h, other-fits w b (roomIn lent) o) in
     cases (question17 w b)
     (λ t. replied-accepted w after f r lent lent m u (e ∙ rw t) (g .number-is ∙ rw t) (g .world ∙ rw (t, h) (moved-posted w b o))
     (rw (h, other-written w b o) (numbers-none lent)) (rw (h, other-written w b o) k))
@@ -182,7 +182,7 @@ block-applied b o c p v blocks e r k n z =
     let w = worldIn b o in
     let t = tablesIn b o in
     let same : factsOf (openingIn b o) (told (openingIn b o) t (Block p v)) ≡ factsOf (openingIn b o) t =
-        unfold told withBlocks factsOf holderOn stateOn energyOf in refl in
+    unfold told withBlocks factsOf holderOn stateOn energyOf in refl in
     let rows : rowsFit (told (openingIn b o) t (Block p v)) ≡ rowsFit t = unfold told withBlocks rowsFit in refl in
     let h = still-fits w c (Block p v) same rows in
     let after = lendBlocks (set (o .blocks) p v) o in
@@ -212,7 +212,7 @@ module _ (b : Book) (o : Lists) (c : Whole (worldIn b o)) where
   unfolding ask
   replied-sent f r lent out m u p d totals g =
       let e : answer w f (roomIn lent) ≡ ask (question18 w Round (roomIn lent)) 18 0 =
-          answer-rest w c f (roomIn lent) m u p ∙ rw (d, round-fits) in
+      answer-rest w c f (roomIn lent) m u p ∙ rw (d, round-fits) in
       cases (question18 w Round (roomIn lent))
       (λ t.
       let k : r .book ≡ withRound b (min 3 (b .round + 1)) = g .book ∙ rw t in

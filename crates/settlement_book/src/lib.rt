@@ -10,8 +10,10 @@ ghost use Rattle.rules.specs.Lent.{Lists, worldIn, given, lent, lendLinks, lend
 ghost use Rattle.settlement.specs.Replies.{Replied};
 ghost use Rattle.settlement_book.specs.Numbers.{bookSize, fieldsSize, bookIn, fieldsIn, freshIn};
 ghost use Rattle.settlement_book.specs.Promises.{OpensIn, RepliesIn, LineIn, PeriodsIn, DayIn};
+
 pub mod numbers;
 pub mod questions;
+
 use crate::numbers::book_of;
 use crate::numbers::copy_front;
 use crate::numbers::fields_of;

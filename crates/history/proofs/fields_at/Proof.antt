@@ -8,7 +8,6 @@ use borrow.Author.Needs.{needs}
 use Rattle.history.proofs.fields_at.Statement.{statement}
 use Rattle.history.proofs.fields_at.Tie as tie
 
-
 mul-at : tie.Need-mul-at
 mul-at c = search needs
 
@@ -35,6 +34,7 @@ returns c =
     let start : tie.Start = search in
     let n : start .args .i * 9 + 9 - start .args .i * 9 ≡ 9 = omega arith in
     c .fields-of .ensures ∙ ap (λ (k : ℕ). fieldsIn (take k (drop (start .args .i * 9) (start .args .inputs .now)))) n
+
 pub fields-at-spec : {M : Type 1} → statement M
 fields-at-spec =
     tie.close

@@ -176,9 +176,17 @@ loop-again c =
     let h = fits turn in
     let list = turn .before .loop .records in
     let at = turn .before .loop .count * 6 in
-    let q = replied-tail _ _ _ _ list _ at (omega arith) (replied .message .ensures) in
-    (omega arith, followed-turn _ _ _ _ _ _ _ _ _ (v .1) _ _ _ _ _ (omega arith) (read .fields-at .ensures) (q .0) (q .1) (numbered .number .ensures),
-    k .0 ∙ v .2, k .1 .0 ∙ v .3, k .1 .1 .0 ∙ v .4, k .1 .1 .1 .0 ∙ v .5, k .1 .1 .1 .1 .0 ∙ v .6, k .1 .1 .1 .1 .1 .0 ∙ v .7, k .1 .1 .1 .1 .1 .1 .0 ∙ v .8)
+    let q = replied-tail _ _ _ _ list _ at (omega arith) (replied .message .ensures) in (
+      omega arith,
+      followed-turn _ _ _ _ _ _ _ _ _ (v .1) _ _ _ _ _ (omega arith) (read .fields-at .ensures) (q .0) (q .1) (numbered .number .ensures),
+      k .0 ∙ v .2,
+      k .1 .0 ∙ v .3,
+      k .1 .1 .0 ∙ v .4,
+      k .1 .1 .1 .0 ∙ v .5,
+      k .1 .1 .1 .1 .0 ∙ v .6,
+      k .1 .1 .1 .1 .1 .0 ∙ v .7,
+      k .1 .1 .1 .1 .1 .1 .0 ∙ v .8,
+    )
 
 same-length : tie.Need-same-length Inv-loop μ-loop
 same-length c = c .before .loop .inv .2

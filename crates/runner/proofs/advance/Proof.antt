@@ -28,7 +28,6 @@ use borrow.Author.Needs.{needs}
 use Rattle.runner.proofs.advance.Statement.{statement}
 use Rattle.runner.proofs.advance.Tie as tie
 
-
 -- everything that is lent
 abbrev lent : tie.Start → Lists
 lent s =
@@ -114,7 +113,7 @@ question-is c =
 -- the field at the place, and what it does in a stage
 open-move : (c : tie.After-task2) (h : Heading) (values : List (List ℕ)) (stage : Stage) → stage ≡ elements h values
     → moveOn (begun c .args .at) stage
-      (foundAt (begun c .args .s .now) (begun c .args .at) (begun c .args .progress .phase) (begun c .args .ended)) (begun c .args .s .now)
+    (foundAt (begun c .args .s .now) (begun c .args .at) (begun c .args .progress .phase) (begun c .args .ended)) (begun c .args .s .now)
     ≡ opening′ (begun c .args .at) (collected h values) (openedTo (c .task2 .given .0 .0))
 open-move c h values stage e =
     let a = begun c .args in
@@ -299,13 +298,14 @@ returns c =
     let known = opening-of numbered in
     let s = begun known in
     let a = s .args in
-    let e = printed .opening-done .ensures in
-    (λ stage h.
-    let i = stage-elements (a .progress) (lent s) (s .pre .1 .1 .0 .0) (opening known .phase-is) stage h in
-    advances-by (open-move known (i .heading) (i .values) stage (i .is))
-    (opening-advances (a .progress .book) (lent s) (i .heading) (i .values) (i .holds) _ (s .pre .0) _ (question-is numbered)
-    (λ z. done .clear-parts .ensures (lent s)) _ _ (a .at) (a .from) _ (printed .opening-done .result) (e .0) (e .1)),
-    ap (λ (r : Advanced). r .more) (e .1) ∙ sym (open-more known))
+    let e = printed .opening-done .ensures in (
+      λ stage h.
+          let i = stage-elements (a .progress) (lent s) (s .pre .1 .1 .0 .0) (opening known .phase-is) stage h in
+          advances-by (open-move known (i .heading) (i .values) stage (i .is))
+          (opening-advances (a .progress .book) (lent s) (i .heading) (i .values) (i .holds) _ (s .pre .0) _ (question-is numbered)
+          (λ z. done .clear-parts .ensures (lent s)) _ _ (a .at) (a .from) _ (printed .opening-done .result) (e .0) (e .1)),
+      ap (λ (r : Advanced). r .more) (e .1) ∙ sym (open-more known),
+    )
 
 opening-done-requires-2 : tie.Need-opening-done-requires-2
 opening-done-requires-2 c κs = search needs
@@ -319,11 +319,17 @@ take-field-requires c κs =
     let s = asked-start (other-asked known) in
     let a = s .args in
     let z = s .pre .0 in
-    let r = s .pre .1 .1 .1 .1 in
-    ((z .elementData, z .prices),
-    ((subst (Inside (a .at) (length (a .s .now))) (sym (found-is (other-asked known)))
-    (inside-at (a .s .now) (a .at) (a .progress .phase) (a .ended) (s .pre .1 .1 .0 .2)), is-other known),
-    (omega arith, s .pre .1 .1 .0 .0)))
+    let r = s .pre .1 .1 .1 .1 in (
+      (z .elementData, z .prices),
+      (
+        (
+          subst (Inside (a .at) (length (a .s .now))) (sym (found-is (other-asked known)))
+              (inside-at (a .s .now) (a .at) (a .progress .phase) (a .ended) (s .pre .1 .1 .0 .2)),
+          is-other known,
+        ),
+        (omega arith, s .pre .1 .1 .0 .0),
+      ),
+    )
 
 same-length-11 : tie.Need-same-length-11
 same-length-11 c = search needs
@@ -370,18 +376,19 @@ returns-2 c =
     let e = done .message-done .ensures in
     let t = taking known in
     let m : isMore (foundAt (a .s .now) (a .at) (a .progress .phase) (a .ended)) ≡ false =
-        ap isMore (sym (found-is (asked-of known)) ∙ t .found-is) ∙ unfold isMore in refl in
-    (λ stage h.
-    let i = standing known stage h in
-    advances-by
-    (ap (λ (x : Stage). moveOn (a .at) x (foundAt (a .s .now) (a .at) (a .progress .phase) (a .ended)) (a .s .now)) (i .is)
-    ∙ ap (λ (f : Found). moveOn (a .at) (messages (frontsWorld (a .progress .book) (lent s)) (a .progress .number)) f (a .s .now))
-    (sym (found-is (asked-of known)) ∙ t .found-is))
-    (arm-message (a .progress .book) (lent s) (ends made) (made .ends-of .ensures) (s .pre .0) (fitted known) _ _ _ _ _ _ _
-    (record { readings = k .0; blocks = k .1 .0; lines = k .1 .1 .0; sent = k .1 .1 .1 .0 }) _ (replied .message .result)
-    (a .at) _ (a .progress .number) (a .s .now) _ _ (s .pre .1 .1 .1 .0) (replied .message .ensures .0) (replied .message .ensures .1)
-    (open-book known .points) _ _ (a .from) (done .message-done .result) (e .0) (e .1)),
-    ap (λ (r : Advanced). r .more) (e .1) ∙ sym m)
+    ap isMore (sym (found-is (asked-of known)) ∙ t .found-is) ∙ unfold isMore in refl in (
+      λ stage h.
+          let i = standing known stage h in
+          advances-by
+          (ap (λ (x : Stage). moveOn (a .at) x (foundAt (a .s .now) (a .at) (a .progress .phase) (a .ended)) (a .s .now)) (i .is)
+          ∙ ap (λ (f : Found). moveOn (a .at) (messages (frontsWorld (a .progress .book) (lent s)) (a .progress .number)) f (a .s .now))
+          (sym (found-is (asked-of known)) ∙ t .found-is))
+          (arm-message (a .progress .book) (lent s) (ends made) (made .ends-of .ensures) (s .pre .0) (fitted known) _ _ _ _ _ _ _
+          (record { readings = k .0; blocks = k .1 .0; lines = k .1 .1 .0; sent = k .1 .1 .1 .0 }) _ (replied .message .result)
+          (a .at) _ (a .progress .number) (a .s .now) _ _ (s .pre .1 .1 .1 .0) (replied .message .ensures .0) (replied .message .ensures .1)
+          (open-book known .points) _ _ (a .from) (done .message-done .result) (e .0) (e .1)),
+      ap (λ (r : Advanced). r .more) (e .1) ∙ sym m,
+    )
 
 same-length-22 : tie.Need-same-length-22
 same-length-22 c = search needs
@@ -399,13 +406,14 @@ returns-3 c =
     let known = opening-of numbered in
     let s = begun known in
     let a = s .args in
-    let e = printed .opening-done2 .ensures in
-    (λ stage h.
-    let i = stage-elements (a .progress) (lent s) (s .pre .1 .1 .0 .0) (opening known .phase-is) stage h in
-    advances-by (open-move known (i .heading) (i .values) stage (i .is))
-    (opening-advances (a .progress .book) (lent s) (i .heading) (i .values) (i .holds) (lent s) (s .pre .0) _ (question-is numbered)
-    (λ z. absurd (refused-before printed .if1 .left z)) _ _ (a .at) (a .from) _ (printed .opening-done2 .result) (e .0) (e .1)),
-    ap (λ (r : Advanced). r .more) (e .1) ∙ sym (open-more known))
+    let e = printed .opening-done2 .ensures in (
+      λ stage h.
+          let i = stage-elements (a .progress) (lent s) (s .pre .1 .1 .0 .0) (opening known .phase-is) stage h in
+          advances-by (open-move known (i .heading) (i .values) stage (i .is))
+          (opening-advances (a .progress .book) (lent s) (i .heading) (i .values) (i .holds) (lent s) (s .pre .0) _ (question-is numbered)
+          (λ z. absurd (refused-before printed .if1 .left z)) _ _ (a .at) (a .from) _ (printed .opening-done2 .result) (e .0) (e .1)),
+      ap (λ (r : Advanced). r .more) (e .1) ∙ sym (open-more known),
+    )
 
 same-length-25 : tie.Need-same-length-25
 same-length-25 c = search needs
@@ -421,10 +429,11 @@ returns-4 c =
     let done : tie.After-take-field = search in
     let known = other-known done in
     let s = asked-start (other-asked known) in
-    let a = s .args in
-    (λ stage h. advances-by (ap (λ (f : Found). moveOn (a .at) stage f (a .s .now)) (sym (found-is (other-asked known))))
-    (done .take-field .ensures .0 (lent s) stage h),
-    done .take-field .ensures .1 ∙ ap isMore (found-is (other-asked known)))
+    let a = s .args in (
+      λ stage h. advances-by (ap (λ (f : Found). moveOn (a .at) stage f (a .s .now)) (sym (found-is (other-asked known))))
+          (done .take-field .ensures .0 (lent s) stage h),
+      done .take-field .ensures .1 ∙ ap isMore (found-is (other-asked known)),
+    )
 
 pub advance-spec : {M : Type 1} → statement M
 advance-spec =

@@ -82,11 +82,14 @@ advance-requires c κs =
     let a = start .args in
     let l = head .loop in
     let u = l .inv .0 in
-    let g = going turn in
-    (u .sized,
-    (stands (a .ended) (a .s .now) (a .at) (a .progress) (lent start) (length (a .out .now)) (now-lent head) (l .out) (l .p) (l .place) (l .written)
-    (l .waits) u (start .pre .1 .0),
-    ((g .over-not, g .number, u .inside), (l .inv .1, omega (arith, g .room)))))
+    let g = going turn in (
+      u .sized,
+      (
+        stands (a .ended) (a .s .now) (a .at) (a .progress) (lent start) (length (a .out .now)) (now-lent head) (l .out) (l .p) (l .place) (l .written)
+            (l .waits) u (start .pre .1 .0),
+        ((g .over-not, g .number, u .inside), (l .inv .1, omega (arith, g .room))),
+      ),
+    )
 
 loop-less : tie.Need-loop-less Inv-loop μ-loop
 loop-less c =
@@ -108,21 +111,22 @@ loop-again c =
     let a = start .args in
     let l = head .loop in
     let z = l .inv .0 .sized in
-    let k = done .advance .kept .1 .1 .1 .1 in
-    (turns (a .ended) (a .s .now) (a .at) (a .progress) (lent start) (length (a .out .now)) (now-lent head) (l .out) (l .p) (l .place) (l .written)
-    (l .waits) (l .inv .0) (start .pre .1 .0) (going turn) _ _ (done .advance .result) (done .advance .ensures .0) (done .advance .ensures .1)
-    (record {
-      elementData = k .0 ∙ z .elementData;
-      prices = k .1 .0 ∙ z .prices;
-      links = k .1 .1 .0 ∙ z .links;
-      holders = k .1 .1 .1 .0 ∙ z .holders;
-      states = k .1 .1 .1 .1 .0 ∙ z .states;
-      readings = k .1 .1 .1 .1 .1 .0 ∙ z .readings;
-      blocks = k .1 .1 .1 .1 .1 .1 .0 ∙ z .blocks;
-      lines = k .1 .1 .1 .1 .1 .1 .1 .0 ∙ z .lines;
-      sent = k .1 .1 .1 .1 .1 .1 .1 .1 .0 ∙ z .sent;
-    }) (k .1 .1 .1 .1 .1 .1 .1 .1 .1 .1 .0),
-    k .1 .1 .1 .1 .1 .1 .1 .1 .1 .0 ∙ l .inv .1)
+    let k = done .advance .kept .1 .1 .1 .1 in (
+      turns (a .ended) (a .s .now) (a .at) (a .progress) (lent start) (length (a .out .now)) (now-lent head) (l .out) (l .p) (l .place) (l .written)
+          (l .waits) (l .inv .0) (start .pre .1 .0) (going turn) _ _ (done .advance .result) (done .advance .ensures .0) (done .advance .ensures .1)
+          (record {
+            elementData = k .0 ∙ z .elementData;
+            prices = k .1 .0 ∙ z .prices;
+            links = k .1 .1 .0 ∙ z .links;
+            holders = k .1 .1 .1 .0 ∙ z .holders;
+            states = k .1 .1 .1 .1 .0 ∙ z .states;
+            readings = k .1 .1 .1 .1 .1 .0 ∙ z .readings;
+            blocks = k .1 .1 .1 .1 .1 .1 .0 ∙ z .blocks;
+            lines = k .1 .1 .1 .1 .1 .1 .1 .0 ∙ z .lines;
+            sent = k .1 .1 .1 .1 .1 .1 .1 .1 .0 ∙ z .sent;
+          }) (k .1 .1 .1 .1 .1 .1 .1 .1 .1 .1 .0),
+      k .1 .1 .1 .1 .1 .1 .1 .1 .1 .0 ∙ l .inv .1,
+    )
 
 same-length : tie.Need-same-length Inv-loop μ-loop
 same-length c =
@@ -187,9 +191,11 @@ returns c =
     let no : tie.Else1 Inv-loop μ-loop = search in
     let a = start .args in
     let l = head .loop in
-    let u = l .inv .0 in
-    (u .reached, ends (a .ended) (a .s .now) (a .at) (a .progress) (lent start) (length (a .out .now)) (now-lent head) (l .out) (l .p) (l .place)
-    (l .written) (l .waits) u (sym (asked .goes-on .ensures) ∙ no .if1 .left))
+    let u = l .inv .0 in (
+      u .reached,
+      ends (a .ended) (a .s .now) (a .at) (a .progress) (lent start) (length (a .out .now)) (now-lent head) (l .out) (l .p) (l .place)
+          (l .written) (l .waits) u (sym (asked .goes-on .ensures) ∙ no .if1 .left),
+    )
 
 pub run-spec : {M : Type 1} → statement M
 run-spec =

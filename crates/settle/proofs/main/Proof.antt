@@ -68,23 +68,24 @@ loop-holds c =
     let readings : tie.After-no-readings Inv-loop μ-loop = search in
     let records : tie.After-no-records Inv-loop μ-loop = search in
     let text : tie.After-no-text Inv-loop μ-loop = search in
-    let buffer : tie.After-large-buffer Inv-loop μ-loop = search in
-    (record {
-      elementData = refl;
-      prices = refl;
-      links = refl;
-      holders = refl;
-      states = refl;
-      readings = sym (readings .no-readings .ensures);
-      blocks = refl;
-      lines = refl;
-      sent = refl;
-    },
-    record { stage = start; holds = c .begin .ensures .0 nothing },
-    sym (buffer .large-buffer .ensures),
-    omega arith,
-    sym (text .no-text .ensures),
-    sym (records .no-records .ensures))
+    let buffer : tie.After-large-buffer Inv-loop μ-loop = search in (
+      record {
+        elementData = refl;
+        prices = refl;
+        links = refl;
+        holders = refl;
+        states = refl;
+        readings = sym (readings .no-readings .ensures);
+        blocks = refl;
+        lines = refl;
+        sent = refl;
+      },
+      record { stage = start; holds = c .begin .ensures .0 nothing },
+      sym (buffer .large-buffer .ensures),
+      omega arith,
+      sym (text .no-text .ensures),
+      sym (records .no-records .ensures),
+    )
 
 array-share-prefix-buffer : tie.Need-array-share-prefix-buffer Inv-loop μ-loop
 array-share-prefix-buffer c =
@@ -199,23 +200,24 @@ loop-again c =
     let r = ran .run .ensures .0 (l .1 .stage) (l .1 .holds) in
     let m = more .read-more .ensures in
     let b = m .2 ∙ kept .keep-rest .kept .0 ∙ l .2 in
-    let k = ran .run .kept .1 .1 .1 .1 in
-    (record {
-      elementData = k .0 ∙ l .0 .elementData;
-      prices = k .1 .0 ∙ l .0 .prices;
-      links = k .1 .1 .0 ∙ l .0 .links;
-      holders = k .1 .1 .1 .0 ∙ l .0 .holders;
-      states = k .1 .1 .1 .1 .0 ∙ l .0 .states;
-      readings = k .1 .1 .1 .1 .1 .0 ∙ l .0 .readings;
-      blocks = k .1 .1 .1 .1 .1 .1 .0 ∙ l .0 .blocks;
-      lines = k .1 .1 .1 .1 .1 .1 .1 .0 ∙ l .0 .lines;
-      sent = k .1 .1 .1 .1 .1 .1 .1 .1 .0 ∙ l .0 .sent;
-    },
-    record { stage = r .stage; holds = r .holds },
-    b,
-    omega (arith, m .1, b),
-    k .1 .1 .1 .1 .1 .1 .1 .1 .1 .1 .0 ∙ l .4,
-    k .1 .1 .1 .1 .1 .1 .1 .1 .1 .0 ∙ l .5)
+    let k = ran .run .kept .1 .1 .1 .1 in (
+      record {
+        elementData = k .0 ∙ l .0 .elementData;
+        prices = k .1 .0 ∙ l .0 .prices;
+        links = k .1 .1 .0 ∙ l .0 .links;
+        holders = k .1 .1 .1 .0 ∙ l .0 .holders;
+        states = k .1 .1 .1 .1 .0 ∙ l .0 .states;
+        readings = k .1 .1 .1 .1 .1 .0 ∙ l .0 .readings;
+        blocks = k .1 .1 .1 .1 .1 .1 .0 ∙ l .0 .blocks;
+        lines = k .1 .1 .1 .1 .1 .1 .1 .0 ∙ l .0 .lines;
+        sent = k .1 .1 .1 .1 .1 .1 .1 .1 .0 ∙ l .0 .sent;
+      },
+      record { stage = r .stage; holds = r .holds },
+      b,
+      omega (arith, m .1, b),
+      k .1 .1 .1 .1 .1 .1 .1 .1 .1 .1 .0 ∙ l .4,
+      k .1 .1 .1 .1 .1 .1 .1 .1 .1 .0 ∙ l .5,
+    )
 
 returns-2 : tie.Need-returns-2 Inv-loop μ-loop
 returns-2 c = search needs

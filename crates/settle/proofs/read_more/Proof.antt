@@ -31,9 +31,12 @@ returns : tie.Need-returns
 returns c =
     let start : tie.Start = search in
     let got : tie.After-read = search in
-    let a = start .args in
-    (search needs, search needs, search needs,
-    take-put (a .have) (length (a .buffer .now) - a .have) (a .buffer .now) (got .read .last .1 .0) (start .pre))
+    let a = start .args in (
+      search needs,
+      search needs,
+      search needs,
+      take-put (a .have) (length (a .buffer .now) - a .have) (a .buffer .now) (got .read .last .1 .0) (start .pre),
+    )
 
 pub read-more-spec : {M : Type 1} → statement M
 read-more-spec =

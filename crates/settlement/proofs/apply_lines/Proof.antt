@@ -12,7 +12,6 @@ use borrow.Author.Needs.{needs}
 use Rattle.settlement.proofs.apply_lines.Statement.{statement}
 use Rattle.settlement.proofs.apply_lines.Tie as tie
 
-
 -- what is lent, and any other tables
 abbrev lent : tie.Start → Lists → Lists
 lent s o =
@@ -49,9 +48,11 @@ link-ends-requires c κs =
     let start : tie.Start = search in
     let a = start .args in
     let o = start .pre .0 .0 in
-    let r = start .pre .0 .1 in
-    (whole-rows (a .book) (lent start o) (r .whole) .links,
-    link-fits (a .book) (lent start o) (a .body) (r .ready) (lengths (worldIn (a .book) (lent start o)) (r .whole) .elementData))
+    let r = start .pre .0 .1 in (
+      whole-rows (a .book) (lent start o) (r .whole) .links,
+      link-fits (a .book) (lent start o) (a .body) (r .ready) (lengths (worldIn (a .book) (lent start o)) (r .whole) .elementData),
+    )
+
 slice-aggregate-post : tie.Need-slice-aggregate-post
 slice-aggregate-post c = search needs
 
@@ -65,9 +66,11 @@ post-requires c κs =
     let a = start .args in
     let o = start .pre .0 .0 in
     let r = start .pre .0 .1 in
-    let room = zeros-room (a .book .elements) (r .ready .limited .elements) in
-    ((lendLines (a .lines .now) o, (postable (a .book) (lent start o) (a .body) r, ended .link-ends .ensures (lent start o))),
-    (row-no-reading (a .body) (start .pre .1), (unfold zeros in (room, room))))
+    let room = zeros-room (a .book .elements) (r .ready .limited .elements) in (
+      (lendLines (a .lines .now) o, (postable (a .book) (lent start o) (a .body) r, ended .link-ends .ensures (lent start o))),
+      (row-no-reading (a .body) (start .pre .1), (unfold zeros in (room, room))),
+    )
+
 slice-aggregate-is-fitting : tie.Need-slice-aggregate-is-fitting
 slice-aggregate-is-fitting c = search needs
 
@@ -82,9 +85,10 @@ is-fitting-requires c κs =
     let a = start .args in
     let o = start .pre .0 .0 in
     let r = start .pre .0 .1 in
-    let p = done .post .ensures (lendLines (a .lines .now) o) (postable (a .book) (lent start o) (a .body) r) in
-    (whole-rows (a .book) (lent start o) (r .whole),
-    (row-fits (a .book) (lent start o) (a .body) (start .pre .1) (r .ready), changed (a .book) (lent start o) (a .body) r _ _ p))
+    let p = done .post .ensures (lendLines (a .lines .now) o) (postable (a .book) (lent start o) (a .body) r) in (
+      whole-rows (a .book) (lent start o) (r .whole),
+      (row-fits (a .book) (lent start o) (a .body) (start .pre .1) (r .ready), changed (a .book) (lent start o) (a .body) r _ _ p),
+    )
 
 write-rows-requires : tie.Need-write-rows-requires
 write-rows-requires c κs =
@@ -95,10 +99,13 @@ write-rows-requires c κs =
     let a = start .args in
     let o = start .pre .0 .0 in
     let r = start .pre .0 .1 in
-    let e = ended .link-ends .ensures (lent start o) in
-    (whole-rows (a .book) (lent start o) (r .whole),
-    ((row-fits (a .book) (lent start o) (a .body) (start .pre .1) (r .ready), rw e (ends-below (a .book) (lent start o) (a .body) (r .ready))),
-    λ v. both _ _ (sym (tested .is-fitting .ensures v) ∙ fits .if1 .taken) .0))
+    let e = ended .link-ends .ensures (lent start o) in (
+      whole-rows (a .book) (lent start o) (r .whole),
+      (
+        (row-fits (a .book) (lent start o) (a .body) (start .pre .1) (r .ready), rw e (ends-below (a .book) (lent start o) (a .body) (r .ready))),
+        λ v. both _ _ (sym (tested .is-fitting .ensures v) ∙ fits .if1 .taken) .0,
+      ),
+    )
 
 mul-count : tie.Need-mul-count
 mul-count c =
@@ -160,13 +167,15 @@ returns c =
     let start = start-of done in
     let ended = ended-before done in
     let a = start .args in
-    let e = c .accepted .ensures in
-    (λ o r.
-    let p = posted-rules (a .book) (lent start o) (a .body) _ _
-            (done .post .ensures (lendLines (a .lines .now) o) (postable (a .book) (lent start o) (a .body) r)) in
-    let q = fits-is (a .book) (lent start o) (a .body) _ _ p _ (tested .is-fitting .ensures (lent start o)) ∙ fits .if1 .taken in
-    let w = wrote .write-rows .ensures (lent start o) (ended .link-ends .ensures (lent start o)) in
-    rw (e .0, e .1) (applied (a .book) (lent start o) (a .body) _ _ p q _ _ w refl refl refl _ (committed .commit-lines .ensures)), e .2)
+    let e = c .accepted .ensures in (
+      λ o r.
+          let p = posted-rules (a .book) (lent start o) (a .body) _ _
+          (done .post .ensures (lendLines (a .lines .now) o) (postable (a .book) (lent start o) (a .body) r)) in
+          let q = fits-is (a .book) (lent start o) (a .body) _ _ p _ (tested .is-fitting .ensures (lent start o)) ∙ fits .if1 .taken in
+          let w = wrote .write-rows .ensures (lent start o) (ended .link-ends .ensures (lent start o)) in
+          rw (e .0, e .1) (applied (a .book) (lent start o) (a .body) _ _ p q _ _ w refl refl refl _ (committed .commit-lines .ensures)),
+      e .2,
+    )
 
 same-length-5 : tie.Need-same-length-5
 same-length-5 c = search needs
@@ -188,12 +197,14 @@ returns-2 c =
     let done = posted-before tested in
     let start = start-of done in
     let a = start .args in
-    let e = c .refused .ensures in
-    (λ o r.
-    let p = posted-rules (a .book) (lent start o) (a .body) _ _
-            (done .post .ensures (lendLines (a .lines .now) o) (postable (a .book) (lent start o) (a .body) r)) in
-    let q = fits-is (a .book) (lent start o) (a .body) _ _ p _ (tested .is-fitting .ensures (lent start o)) ∙ no .if1 .left in
-    rw (e .0, e .1) (applied-not (worldIn (a .book) (lent start o)) _ (a .body) q refl), e .2)
+    let e = c .refused .ensures in (
+      λ o r.
+          let p = posted-rules (a .book) (lent start o) (a .body) _ _
+          (done .post .ensures (lendLines (a .lines .now) o) (postable (a .book) (lent start o) (a .body) r)) in
+          let q = fits-is (a .book) (lent start o) (a .body) _ _ p _ (tested .is-fitting .ensures (lent start o)) ∙ no .if1 .left in
+          rw (e .0, e .1) (applied-not (worldIn (a .book) (lent start o)) _ (a .body) q refl),
+      e .2,
+    )
 
 pub apply-lines-spec : {M : Type 1} → statement M
 apply-lines-spec =

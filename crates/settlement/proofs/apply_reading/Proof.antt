@@ -10,7 +10,6 @@ use borrow.Author.Needs.{needs}
 use Rattle.settlement.proofs.apply_reading.Statement.{statement}
 use Rattle.settlement.proofs.apply_reading.Tie as tie
 
-
 -- what is lent, and any other tables
 abbrev lent : tie.Start → Lists → Lists
 lent s o =
@@ -27,14 +26,17 @@ settle-reading-requires : tie.Need-settle-reading-requires
 settle-reading-requires c κs =
     let start : tie.Start = search in
     let o = start .pre .0 in
-    let r = start .pre .1 in
-    ((lendLines (start .args .lines .now) o, postable (start .args .book) (lent start o) (body-of start) r),
-    lines-asked (start .args .book) (lent start o) (r .whole))
+    let r = start .pre .1 in (
+      (lendLines (start .args .lines .now) o, postable (start .args .book) (lent start o) (body-of start) r),
+      lines-asked (start .args .book) (lent start o) (r .whole),
+    )
+
 write-reading-requires : tie.Need-write-reading-requires
 write-reading-requires c κs =
     let settled : tie.After-settle-reading = search in
     let start = start-of settled in
     reading-fits (start .args .book) (lent start (start .pre .0)) _ _ _ _ (start .pre .1 .ready)
+
 accepted-requires : tie.Need-accepted-requires
 accepted-requires c κs = search needs
 
@@ -54,11 +56,14 @@ returns c =
     let wrote : tie.After-write-reading = search in
     let start = start-of settled in
     let a = start .args in
-    let e = c .accepted .ensures in
-    (λ o r.
-    let g = settled .settle-reading .ensures (lendLines (a .lines .now) o) (postable (a .book) (lent start o) (body-of start) r) in
-    rw (e .0, e .1) (reading-applied (a .book) (lent start o) _ _ _ _ (r .whole) _ _ g (fits .if1 .taken) _
-    (wrote .write-reading .ensures (lent start o)) refl refl refl), e .2)
+    let e = c .accepted .ensures in (
+      λ o r.
+          let g = settled .settle-reading .ensures (lendLines (a .lines .now) o) (postable (a .book) (lent start o) (body-of start) r) in
+          rw (e .0, e .1) (reading-applied (a .book) (lent start o) _ _ _ _ (r .whole) _ _ g (fits .if1 .taken) _
+          (wrote .write-reading .ensures (lent start o)) refl refl refl),
+      e .2,
+    )
+
 same-length-3 : tie.Need-same-length-3
 same-length-3 c = search needs
 
@@ -71,10 +76,13 @@ returns-2 c =
     let no : tie.Else1 = search in
     let start = start-of settled in
     let a = start .args in
-    let e = c .refused .ensures in
-    (λ o r.
-    let g = settled .settle-reading .ensures (lendLines (a .lines .now) o) (postable (a .book) (lent start o) (body-of start) r) in
-    rw (e .0, e .1) (reading-refused (a .book) (lent start o) _ _ _ _ (r .whole) _ _ g (no .if1 .left)), e .2)
+    let e = c .refused .ensures in (
+      λ o r.
+          let g = settled .settle-reading .ensures (lendLines (a .lines .now) o) (postable (a .book) (lent start o) (body-of start) r) in
+          rw (e .0, e .1) (reading-refused (a .book) (lent start o) _ _ _ _ (r .whole) _ _ g (no .if1 .left)),
+      e .2,
+    )
+
 pub apply-reading-spec : {M : Type 1} → statement M
 apply-reading-spec =
     tie.close

@@ -20,7 +20,6 @@ use borrow.Author.Needs.{needs}
 use Rattle.settlement.proofs.message.Statement.{statement}
 use Rattle.settlement.proofs.message.Tie as tie
 
-
 -- everything that is lent, and the world of it
 abbrev lent : tie.Start → Lists
 lent s =
@@ -80,8 +79,9 @@ returns c =
     let e = c .refused .ensures in
     let u = sym (read .understand .ensures) ∙ ap foundMessage (told .enum-told .given .1) in
     let g = replied-refused (world start) _ (start .args .fields) _ (start .args .records .now) _ 6
-            (answer-none (world start) (start .pre) (start .args .fields) _ u) (λ z. omega arith) (ap numberOf (e .0)) (ap (λ b. worldIn b (lent start)) (e .1)) refl (e .2) in
+    (answer-none (world start) (start .pre) (start .args .fields) _ u) (λ z. omega arith) (ap numberOf (e .0)) (ap (λ b. worldIn b (lent start)) (e .1)) refl (e .2) in
     (g, replied-whole (start .pre) g)
+
 decide-requires : tie.Need-decide-requires
 decide-requires c κs =
     let start : tie.Start = search in
@@ -117,7 +117,7 @@ returns-2 c =
     let d = asked .decide .ensures (lent start) in
     let n = answer-refused (world start) (start .pre) (start .args .fields) _ _ (message-is read) (λ z. no .if1 .taken (numbered .number .ensures ∙ d ∙ z)) in
     let g = replied-refused (world start) _ (start .args .fields) _ (start .args .records .now) _ _ n
-            (λ z. no .if1 .taken (numbered .number .ensures ∙ d ∙ z)) (ap numberOf (e .0) ∙ d) (ap (λ b. worldIn b (lent start)) (e .1)) refl (e .2) in
+    (λ z. no .if1 .taken (numbered .number .ensures ∙ d ∙ z)) (ap numberOf (e .0) ∙ d) (ap (λ b. worldIn b (lent start)) (e .1)) refl (e .2) in
     (g, replied-whole (start .pre) g)
 
 enum-known-body : tie.Need-enum-known-body
@@ -195,8 +195,8 @@ returns-3 c =
     let e = done .apply-reading .ensures in
     let body = known .body .given .1 in
     let g = replied-applied (world start) _ (start .pre) (start .args .fields) _ (start .args .records .now) _ (message-is (read-of passed))
-            (decided-is passed) _ body (unfold isRound in refl)
-            (e .0 (lent start) (subst (ReadyIn (start .args .book) (lent start)) body (ready passed))) (e .1) in
+    (decided-is passed) _ body (unfold isRound in refl)
+    (e .0 (lent start) (subst (ReadyIn (start .args .book) (lent start)) body (ready passed))) (e .1) in
     (g, replied-whole (start .pre) g)
 
 same-length-11 : tie.Need-same-length-11
@@ -220,8 +220,8 @@ returns-4 c =
     let e = c .accepted .ensures in
     let body = known .body2 .given .1 in
     let g = replied-applied (world start) _ (start .pre) (start .args .fields) _ (start .args .records .now) _ (message-is (read-of passed))
-            (decided-is passed) _ body (unfold isRound in refl)
-            (block-applied (start .args .book) (lent start) (start .pre) _ _ _ (wrote .write-block .ensures) _ (e .1) _ (ap numberOf (e .0))) (e .2) in
+    (decided-is passed) _ body (unfold isRound in refl)
+    (block-applied (start .args .book) (lent start) (start .pre) _ _ _ (wrote .write-block .ensures) _ (e .1) _ (ap numberOf (e .0))) (e .2) in
     (g, replied-whole (start .pre) g)
 
 same-length-15 : tie.Need-same-length-15
@@ -260,7 +260,7 @@ returns-5 c =
     let passed = before-sending done in
     let start = start-of (read-of passed) in
     let g = replied-sent (start .args .book) (lent start) (start .pre) (start .args .fields) _ (start .args .records .now) _ _ (message-is (read-of passed))
-            (decided-is passed) (round-is _ (at-round done .match2 .keys3)) _ (done .send .ensures (lent start)) in
+    (decided-is passed) (round-is _ (at-round done .match2 .keys3)) _ (done .send .ensures (lent start)) in
     (g, replied-whole (start .pre) g)
 
 same-length-22 : tie.Need-same-length-22
@@ -297,7 +297,7 @@ returns-6 c =
     let start = start-of (read-of passed) in
     let e = done .apply-lines .ensures in
     let g = replied-applied (world start) _ (start .pre) (start .args .fields) _ (start .args .records .now) _ (message-is (read-of passed))
-            (decided-is passed) _ refl (row-no-round _ (writes-row _ (at-lines done .match2 .keys4))) (e .0 (lent start) (ready passed)) (e .1) in
+    (decided-is passed) _ refl (row-no-round _ (writes-row _ (at-lines done .match2 .keys4))) (e .0 (lent start) (ready passed)) (e .1) in
     (g, replied-whole (start .pre) g)
 
 pub message-spec : {M : Type 1} → statement M

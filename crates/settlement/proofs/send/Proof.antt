@@ -7,7 +7,6 @@ use borrow.Author.Needs.{needs}
 use Rattle.settlement.proofs.send.Statement.{statement}
 use Rattle.settlement.proofs.send.Tie as tie
 
-
 moved-count-requires : tie.Need-moved-count-requires
 moved-count-requires c κs = search needs
 
@@ -43,6 +42,7 @@ returns c o =
     let e = c .accepted .ensures in
     sent-records (start .args .book) o _ _ (start .args .records .now) _ (counted .moved-count .ensures) _ (asked .if1 .taken) (ap numberOf (e .0))
     (e .1 ∙ made .with-round .ensures ∙ ap (withRound (start .args .book)) (next .next-round .ensures)) (e .2) _ _ (sent .send-lines .ensures .0) (sent .send-lines .ensures .1)
+
 same-length-3 : tie.Need-same-length-3
 same-length-3 c = search needs
 
@@ -52,6 +52,7 @@ returns-2 c o =
     let counted : tie.After-moved-count = search in
     let e = c .refused .ensures in
     sent-nothing (start .args .book) o _ _ (start .args .records .now) _ (counted .moved-count .ensures) _ (c .before .if1 .left) (ap numberOf (e .0)) (e .1) (e .2)
+
 pub send-spec : {M : Type 1} → statement M
 send-spec =
     tie.close

@@ -11,7 +11,6 @@ use borrow.Author.Needs.{needs}
 use Rattle.settlement_book.proofs.message.Statement.{statement}
 use Rattle.settlement_book.proofs.message.Tie as tie
 
-
 -- everything that is lent
 abbrev lent : tie.Start → Lists
 lent s =
@@ -65,6 +64,7 @@ returns c =
     replied-refused (world start) _ (start .args .fields) _ (start .args .records .now) _ _
     (answer-book (world start) (start .args .fields) _ (λ z. no .if1 .taken (numbered .number .ensures ∙ a ∙ z)))
     (λ z. no .if1 .taken (numbered .number .ensures ∙ a ∙ z)) (ap numberOf (e .0) ∙ a) (ap (λ (b : Book). worldIn b (lent start)) (e .1)) refl (e .2)
+
 message-requires : tie.Need-message-requires
 message-requires c κs =
     let checked : tie.After-check-book = search in
@@ -72,6 +72,7 @@ message-requires c κs =
     let yes : tie.Else1 = search in
     let start = start-of checked in
     book-whole (world start) 0 (sym (checked .check-book .ensures) ∙ sym (numbered .number .ensures) ∙ yes .if1 .left) .0
+
 same-length-8 : tie.Need-same-length-8
 same-length-8 c = search needs
 

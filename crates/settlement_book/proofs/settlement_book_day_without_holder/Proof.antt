@@ -12,7 +12,6 @@ use borrow.Author.Needs.{needs}
 use Rattle.settlement_book.proofs.settlement_book_day_without_holder.Statement.{statement}
 use Rattle.settlement_book.proofs.settlement_book_day_without_holder.Tie as tie
 
-
 -- everything that is lent
 abbrev lent : tie.Start → Lists
 lent s =
@@ -48,6 +47,7 @@ settlement-book-day-without-holder-within-requires c κs =
     let yes : tie.Then1 = search in
     let start = start-of checked in
     (start .pre, (lent start, book-whole (world start) 0 (sym (asked checked) ∙ sym (numbered .number .ensures) ∙ yes .if1 .taken) .0))
+
 number-requires-2 : tie.Need-number-requires-2
 number-requires-2 c κs = search needs
 
@@ -59,6 +59,7 @@ returns c =
     let done : tie.After-settlement-book-day-without-holder-within = search in
     let start = start-of checked in
     done .settlement-book-day-without-holder-within .ensures (lent start) (book-whole (world start) 0 (sym (asked checked) ∙ sym (numbered .number .ensures) ∙ yes .if1 .taken) .0)
+
 returns-2 : tie.Need-returns-2
 returns-2 c =
     let checked : tie.After-check-book = search in
@@ -66,6 +67,7 @@ returns-2 c =
     let no : tie.Else1 = search in
     let start = start-of checked in
     day-no-book (world start) (start .args .point) (checked .check-book .result) (asked checked) (λ z. no .if1 .left (numbered .number .ensures ∙ z)) _ (c .number2 .ensures) (start .args .day .now)
+
 pub settlement-book-day-without-holder-spec : {M : Type 1} → statement M
 settlement-book-day-without-holder-spec =
     tie.close

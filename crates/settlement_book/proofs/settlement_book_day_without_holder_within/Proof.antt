@@ -10,7 +10,6 @@ use borrow.Author.Needs.{needs}
 use Rattle.settlement_book.proofs.settlement_book_day_without_holder_within.Statement.{statement}
 use Rattle.settlement_book.proofs.settlement_book_day_without_holder_within.Tie as tie
 
-
 -- the book that the numbers name is the one that is asked
 abbrev start-of : tie.After-book-of → tie.Start
 start-of c = search
@@ -30,6 +29,7 @@ day-without-holder-requires c κs =
     let named : tie.After-book-of = search in
     let start = start-of named in
     (start .pre .1 .0, held-whole named (start .pre .1 .0) (start .pre .1 .1))
+
 put-day-requires : tie.Need-put-day-requires
 put-day-requires c κs = search needs
 
@@ -44,6 +44,7 @@ returns c o whole =
     (subst (λ (b : Book). DayTold (worldIn b (lent start o)) (start .args .point) (asked .day-without-holder .result)) (named .book-of .ensures)
     (asked .day-without-holder .ensures o (held-whole named o whole)))
     _ (t .0) _ _ (t .1)
+
 pub settlement-book-day-without-holder-within-spec : {M : Type 1} → statement M
 settlement-book-day-without-holder-within-spec =
     tie.close (tie.spec book-of-requires day-without-holder-requires put-day-requires returns)

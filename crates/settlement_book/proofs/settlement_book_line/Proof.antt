@@ -12,7 +12,6 @@ use borrow.Author.Needs.{needs}
 use Rattle.settlement_book.proofs.settlement_book_line.Statement.{statement}
 use Rattle.settlement_book.proofs.settlement_book_line.Tie as tie
 
-
 -- everything that is lent
 abbrev lent : tie.Start → Lists
 lent s =
@@ -47,6 +46,7 @@ settlement-book-line-within-requires c κs =
     let yes : tie.Then1 = search in
     let start = start-of checked in
     (start .pre, (lent start, book-whole (world start) 0 (sym (asked checked) ∙ sym (numbered .number .ensures) ∙ yes .if1 .taken) .0))
+
 number-requires-2 : tie.Need-number-requires-2
 number-requires-2 c κs = search needs
 
@@ -61,6 +61,7 @@ returns c =
     let done : tie.After-settlement-book-line-within = search in
     let start = start-of checked in
     done .settlement-book-line-within .ensures (lent start) (book-whole (world start) 0 (sym (asked checked) ∙ sym (numbered .number .ensures) ∙ yes .if1 .taken) .0)
+
 returns-2 : tie.Need-returns-2
 returns-2 c =
     let checked : tie.After-check-book = search in
@@ -68,6 +69,7 @@ returns-2 c =
     let no : tie.Else1 = search in
     let start = start-of checked in
     line-no-book (world start) (start .args .supplier) (start .args .element) (checked .check-book .result) (asked checked) (λ z. no .if1 .left (numbered .number .ensures ∙ z)) _ (c .number2 .ensures) (start .args .line .now)
+
 pub settlement-book-line-spec : {M : Type 1} → statement M
 settlement-book-line-spec =
     tie.close

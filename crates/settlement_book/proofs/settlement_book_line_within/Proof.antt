@@ -10,7 +10,6 @@ use borrow.Author.Needs.{needs}
 use Rattle.settlement_book.proofs.settlement_book_line_within.Statement.{statement}
 use Rattle.settlement_book.proofs.settlement_book_line_within.Tie as tie
 
-
 -- the book that the numbers name is the one that is asked
 abbrev start-of : tie.After-book-of → tie.Start
 start-of c = search
@@ -30,12 +29,14 @@ line-requires c κs =
     let named : tie.After-book-of = search in
     let start = start-of named in
     (start .pre .1 .0, held-whole named (start .pre .1 .0) (start .pre .1 .1))
+
 put-line-requires : tie.Need-put-line-requires
 put-line-requires c κs =
     let asked : tie.After-line = search in
     let named : tie.After-book-of = search in
     let start = start-of named in
     (start .pre .0 .1, line-small _ _ _ _ (asked .line .ensures (start .pre .1 .0) (held-whole named (start .pre .1 .0) (start .pre .1 .1))))
+
 same-length : tie.Need-same-length
 same-length c = search needs
 
@@ -50,6 +51,7 @@ returns c o whole =
     line-in-numbers (worldIn (bookIn (start .args .book .now)) (lent start o)) _ _ _
     (subst (λ (b : Book). LineAnswered (worldIn b (lent start o)) (start .args .supplier) (start .args .element) (asked .line .result)) (named .book-of .ensures) a)
     _ (t .0) _ _ (t .1)
+
 pub settlement-book-line-within-spec : {M : Type 1} → statement M
 settlement-book-line-within-spec =
     tie.close (tie.spec book-of-requires line-requires put-line-requires same-length returns)

@@ -5,7 +5,6 @@ use borrow.Author.Needs.{needs}
 use Rattle.settlement_book.proofs.settlement_book_message.Statement.{statement}
 use Rattle.settlement_book.proofs.settlement_book_message.Tie as tie
 
-
 -- everything that is lent
 abbrev lent : tie.Start → Lists
 lent s =
@@ -38,6 +37,7 @@ put-book-requires : tie.Need-put-book-requires
 put-book-requires c κs =
     let replied : tie.After-message = search in
     start-of (named-of replied) .pre .0
+
 number-requires : tie.Need-number-requires
 number-requires c κs = search needs
 
@@ -76,6 +76,7 @@ returns c =
     let start = start-of (named-of replied) in
     replies-in (lent start) _ (replied .message .result) (start .args .records .now) _ _ _ (named-of replied .book-of .ensures)
     (fields-before replied .fields-of .ensures) (replied .message .ensures) (put .put-book .ensures) (numbered .number .ensures)
+
 pub settlement-book-message-spec : {M : Type 1} → statement M
 settlement-book-message-spec =
     tie.close

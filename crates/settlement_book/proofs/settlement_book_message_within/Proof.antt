@@ -8,7 +8,6 @@ use borrow.Author.Needs.{needs}
 use Rattle.settlement_book.proofs.settlement_book_message_within.Statement.{statement}
 use Rattle.settlement_book.proofs.settlement_book_message_within.Tie as tie
 
-
 -- everything that is lent
 abbrev lent : tie.Start → Lists
 lent s =
@@ -39,10 +38,12 @@ message-requires c κs =
     let named : tie.After-book-of = search in
     let start = start-of named in
     subst (λ (b : Book). Whole (worldIn b (lent start))) (sym (named .book-of .ensures)) (start .pre .1)
+
 put-book-requires : tie.Need-put-book-requires
 put-book-requires c κs =
     let replied : tie.After-message = search in
     start-of (named-of replied) .pre .0 .0
+
 number-requires : tie.Need-number-requires
 number-requires c κs = search needs
 
@@ -78,10 +79,12 @@ returns c =
     let put : tie.After-put-book = search in
     let numbered : tie.After-number = search in
     let replied = replied-of put in
-    let start = start-of (named-of replied) in
-    (replies-in (lent start) _ (replied .message .result) (start .args .records .now) _ _ _ (named-of replied .book-of .ensures)
-    (fields-before replied .fields-of .ensures) (replied .message .ensures .0) (put .put-book .ensures) (numbered .number .ensures),
-    put-whole _ _ _ (put .put-book .ensures) (replied .message .ensures .1))
+    let start = start-of (named-of replied) in (
+      replies-in (lent start) _ (replied .message .result) (start .args .records .now) _ _ _ (named-of replied .book-of .ensures)
+          (fields-before replied .fields-of .ensures) (replied .message .ensures .0) (put .put-book .ensures) (numbered .number .ensures),
+      put-whole _ _ _ (put .put-book .ensures) (replied .message .ensures .1),
+    )
+
 pub settlement-book-message-within-spec : {M : Type 1} → statement M
 settlement-book-message-within-spec =
     tie.close

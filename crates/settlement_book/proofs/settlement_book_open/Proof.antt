@@ -12,7 +12,6 @@ use borrow.Author.Needs.{needs}
 use Rattle.settlement_book.proofs.settlement_book_open.Statement.{statement}
 use Rattle.settlement_book.proofs.settlement_book_open.Tie as tie
 
-
 -- everything that is lent
 abbrev lent : tie.Start → Lists
 lent s =
@@ -59,6 +58,7 @@ check-opening-requires : tie.Need-check-opening-requires
 check-opening-requires c κs =
     let start : tie.Start = search in
     (lent start, refl)
+
 number-requires : tie.Need-number-requires
 number-requires c κs = search needs
 
@@ -113,10 +113,11 @@ returns-2 c =
     let b = start .args .book .now in
     let h = sym (number-is numbered) ∙ passed-of cleared .if1 .left in
     let e = cleared .clear-tables .ensures (lent start) in
-    let n = put .put-book .ensures ∙ ap numbersIn (fresh-is numbered) in
-    (opens-in (getD b 0 0) (getD b 1 0) (getD b 2 0) (getD b 3 0) (getD b 4 0) (lent start) _ h e b _ n,
-    λ z. put-whole (freshIn b) _ _ n
-    (opened-whole (world start) _ (opens-world (getD b 0 0) (getD b 1 0) (getD b 2 0) (getD b 3 0) (getD b 4 0) (lent start) _ h e) h))
+    let n = put .put-book .ensures ∙ ap numbersIn (fresh-is numbered) in (
+      opens-in (getD b 0 0) (getD b 1 0) (getD b 2 0) (getD b 3 0) (getD b 4 0) (lent start) _ h e b _ n,
+      λ z. put-whole (freshIn b) _ _ n
+          (opened-whole (world start) _ (opens-world (getD b 0 0) (getD b 1 0) (getD b 2 0) (getD b 3 0) (getD b 4 0) (lent start) _ h e) h),
+    )
 
 pub settlement-book-open-spec : {M : Type 1} → statement M
 settlement-book-open-spec =

@@ -16,7 +16,6 @@ use borrow.Author.Needs.{needs}
 use Rattle.settlement_book.proofs.settlement_book_periods_within.Statement.{statement}
 use Rattle.settlement_book.proofs.settlement_book_periods_within.Tie as tie
 
-
 -- the book that the numbers name is the one that is asked
 abbrev start-of : tie.After-book-of → tie.Start
 start-of c = search
@@ -75,9 +74,10 @@ periods-requires c κs =
     let yes : tie.Else1 = search in
     let named = named-of numbered in
     let start = start-of named in
-    let o = start .pre .1 .0 in
-    ((o, held-whole named o (start .pre .1 .1)),
-    periods-passed (worldIn (named .book-of .result) (lent start o)) _ _ (sym (asked numbered o (start .pre .1 .1)) ∙ yes .if1 .left) .1)
+    let o = start .pre .1 .0 in (
+      (o, held-whole named o (start .pre .1 .1)),
+      periods-passed (worldIn (named .book-of .result) (lent start o)) _ _ (sym (asked numbered o (start .pre .1 .1)) ∙ yes .if1 .left) .1,
+    )
 
 copy-front-requires : tie.Need-copy-front-requires
 copy-front-requires c κs =
@@ -103,7 +103,7 @@ returns-2 c o whole =
     let a = start .args in
     let e = named .book-of .ensures in
     let rows = found .periods .ensures o (held-whole named o whole)
-            ∙ ap (λ (b : Book). periodsQuery (worldIn b (lent start o)) (a .point) (a .element)) e in
+    ∙ ap (λ (b : Book). periodsQuery (worldIn b (lent start o)) (a .point) (a .element)) e in
     record {
       number = sym (yes .if1 .left) ∙ asked numbered o whole
           ∙ ap (λ (b : Book). periodsNumber (worldIn b (lent start o)) (a .point) (a .element)) e;

@@ -6,7 +6,6 @@ use borrow.Author.Needs.{needs}
 use Rattle.runner.proofs.fields.count_on.Statement.{statement}
 use Rattle.runner.proofs.fields.count_on.Tie as tie
 
-
 add-next : tie.Need-add-next
 add-next c = search needs
 
@@ -20,6 +19,7 @@ returns c =
     let n = start .args .book .elements in
     let z : min 65 (n + 1) ≡ n + 1 = omega (arith, yes .if1 .taken) in
     rw z
+
 returns-2 : tie.Need-returns-2
 returns-2 c =
     let start : tie.Start = search in
@@ -27,5 +27,6 @@ returns-2 c =
     let n = start .args .book .elements in
     let z : min 65 (n + 1) ≡ 65 = omega (arith, no .if1 .left) in
     rw z
+
 pub count-on-spec : {M : Type 1} → statement M
 count-on-spec = tie.close (tie.spec add-next add-next-2 returns returns-2)

@@ -7,7 +7,6 @@ use borrow.Author.Needs.{needs}
 use Rattle.runner.proofs.fields.finish.Statement.{statement}
 use Rattle.runner.proofs.fields.finish.Tie as tie
 
-
 is-end-requires : tie.Need-is-end-requires
 is-end-requires c κs = search needs
 
@@ -22,9 +21,12 @@ returns c =
     let start : tie.Start = search in
     let told : tie.After-is-end = search in
     let yes : tie.Then1 = search in
-    let a = start .args in
-    (λ t w n bytes. rw (messages-end (a .at) bytes w n (a .found) (sym (told .is-end .ensures) ∙ yes .if1 .taken))
-    (arm-over (a .at) _ _ t _ _ (c .moved .ensures)), ap (λ (r : Advanced). r .more) (c .moved .ensures))
+    let a = start .args in (
+      λ t w n bytes. rw (messages-end (a .at) bytes w n (a .found) (sym (told .is-end .ensures) ∙ yes .if1 .taken))
+          (arm-over (a .at) _ _ t _ _ (c .moved .ensures)),
+      ap (λ (r : Advanced). r .more) (c .moved .ensures),
+    )
+
 same-length : tie.Need-same-length
 same-length c = search needs
 
@@ -34,9 +36,12 @@ returns-2 c =
     let told : tie.After-is-end = search in
     let no : tie.Else1 = search in
     let done : tie.After-refuse = search in
-    let a = start .args in
-    (λ t w n bytes. rw (messages-else (a .at) bytes w n (a .found) (start .pre .1) (sym (told .is-end .ensures) ∙ no .if1 .left) (start .pre .2))
-    (done .refuse .ensures .0 t), done .refuse .ensures .1)
+    let a = start .args in (
+      λ t w n bytes. rw (messages-else (a .at) bytes w n (a .found) (start .pre .1) (sym (told .is-end .ensures) ∙ no .if1 .left) (start .pre .2))
+          (done .refuse .ensures .0 t),
+      done .refuse .ensures .1,
+    )
+
 pub finish-spec : {M : Type 1} → statement M
 finish-spec =
     tie.close

@@ -8,7 +8,6 @@ use borrow.Author.Needs.{needs}
 use Rattle.runner.proofs.fields.gather.Statement.{statement}
 use Rattle.runner.proofs.fields.gather.Tie as tie
 
-
 enum-known-found : tie.Need-enum-known-found
 enum-known-found c = search needs
 
@@ -24,15 +23,18 @@ returns c =
     let arm : tie.At-match-keys2 = search in
     let done : tie.After-refuse = search in
     let a = start .args in
-    let p = start .pre .1 .0 in
-    (λ h values o v. rw (elements-else (a .at) (a .s .now) h values (a .found) (arm .match .keys2) (p .1) (p .2)) (done .refuse .ensures .0 _),
-    done .refuse .ensures .1)
+    let p = start .pre .1 .0 in (
+      λ h values o v. rw (elements-else (a .at) (a .s .now) h values (a .found) (arm .match .keys2) (p .1) (p .2)) (done .refuse .ensures .0 _),
+      done .refuse .ensures .1,
+    )
+
 take-element-requires : tie.Need-take-element-requires
 take-element-requires c κs =
     let start : tie.Start = search in
     let known : tie.After-found = search in
     let i = element-inside _ _ _ _ _ (start .args .found) (known .found .given .1) (start .pre .1 .0 .0) in
     (i, start .pre .0)
+
 moved-requires : tie.Need-moved-requires
 moved-requires c κs = search needs
 
@@ -47,10 +49,12 @@ returns-2 c =
     let start : tie.Start = search in
     let known : tie.After-found = search in
     let took : tie.After-take-element = search in
-    let a = start .args in
-    (λ h values o v. rw (known .found .given .1)
-    (arm-element (a .at) _ _ _ (a .s .now) h values (lendElements _ _ o) _ _ _ _ (took .take-element .ensures h values v) (c .moved .ensures)),
-    ap (λ (r : Advanced). r .more) (c .moved .ensures))
+    let a = start .args in (
+      λ h values o v. rw (known .found .given .1)
+          (arm-element (a .at) _ _ _ (a .s .now) h values (lendElements _ _ o) _ _ _ _ (took .take-element .ensures h values v) (c .moved .ensures)),
+      ap (λ (r : Advanced). r .more) (c .moved .ensures),
+    )
+
 pub gather-spec : {M : Type 1} → statement M
 gather-spec =
     tie.close

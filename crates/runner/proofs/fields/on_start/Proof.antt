@@ -7,7 +7,6 @@ use borrow.Author.Needs.{needs}
 use Rattle.runner.proofs.fields.on_start.Statement.{statement}
 use Rattle.runner.proofs.fields.on_start.Tie as tie
 
-
 enum-known-found : tie.Need-enum-known-found
 enum-known-found c = search needs
 
@@ -24,6 +23,7 @@ returns c =
     let done : tie.After-refuse = search in
     let a = start .args in
     (λ t bytes. rw (start-else (a .at) bytes (a .found) (arm .match .keys2) (start .pre .1)) (done .refuse .ensures .0 t), done .refuse .ensures .1)
+
 fresh-book-requires : tie.Need-fresh-book-requires
 fresh-book-requires c κs = search needs
 
@@ -34,10 +34,12 @@ returns-2 : tie.Need-returns-2
 returns-2 c =
     let start : tie.Start = search in
     let known : tie.After-found = search in
-    let fresh : tie.After-fresh-book = search in
-    (λ t bytes. rw (known .found .given .1)
-    (arm-month (start .args .at) _ _ _ _ _ bytes t _ _ _ _ (fresh .fresh-book .ensures) (c .moved .ensures)),
-    ap (λ (r : Advanced). r .more) (c .moved .ensures))
+    let fresh : tie.After-fresh-book = search in (
+      λ t bytes. rw (known .found .given .1)
+          (arm-month (start .args .at) _ _ _ _ _ bytes t _ _ _ _ (fresh .fresh-book .ensures) (c .moved .ensures)),
+      ap (λ (r : Advanced). r .more) (c .moved .ensures),
+    )
+
 pub on-start-spec : {M : Type 1} → statement M
 on-start-spec =
     tie.close

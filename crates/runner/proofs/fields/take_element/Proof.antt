@@ -8,7 +8,6 @@ use borrow.Author.Needs.{needs}
 use Rattle.runner.proofs.fields.take_element.Statement.{statement}
 use Rattle.runner.proofs.fields.take_element.Tie as tie
 
-
 read-element-requires : tie.Need-read-element-requires
 read-element-requires c κs = search needs
 
@@ -33,14 +32,16 @@ returns c =
     let p = start .pre in
     let e = read .read-element .ensures in
     let m : length (take (a .size) (drop (a .start) (a .s .now))) ≡ a .size =
-        length-take-le (a .size) (drop (a .start) (a .s .now)) (rw length-drop (omega arith)) in
+    length-take-le (a .size) (drop (a .start) (a .s .now)) (rw length-drop (omega arith)) in
     λ h values v. value-read (a .book) _ _ h values v _ (c .count-on .result) (c .count-on .ensures) (yes .if1 .taken) (omega arith)
     (p .1 .0) (p .1 .1) _ _ (e .0) (e .1)
+
 returns-2 : tie.Need-returns-2
 returns-2 c =
     let start : tie.Start = search in
     let no : tie.Else1 = search in
     λ h values v. value-dropped (start .args .book) _ _ h values v _ (c .count-on2 .result) (c .count-on2 .ensures) (no .if1 .left)
+
 pub take-element-spec : {M : Type 1} → statement M
 take-element-spec =
     tie.close

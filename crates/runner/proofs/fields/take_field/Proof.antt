@@ -10,7 +10,6 @@ use borrow.Author.Needs.{needs}
 use Rattle.runner.proofs.fields.take_field.Statement.{statement}
 use Rattle.runner.proofs.fields.take_field.Tie as tie
 
-
 abbrev start-of : tie.After-gather → tie.Start
 start-of c = search
 
@@ -35,9 +34,11 @@ returns c =
     let told : tie.After-is-more = search in
     let yes : tie.Then1 = search in
     let a = start .args in
-    let m = sym (told .is-more .ensures) ∙ yes .if1 .taken in
-    (λ o stage h. arm-waits (a .at) stage _ (a .s .now) (a .progress) _ _ (a .from) (c .waiting .result) m h (c .waiting .ensures),
-    ap (λ (r : Advanced). r .more) (c .waiting .ensures) ∙ sym m)
+    let m = sym (told .is-more .ensures) ∙ yes .if1 .taken in (
+      λ o stage h. arm-waits (a .at) stage _ (a .s .now) (a .progress) _ _ (a .from) (c .waiting .result) m h (c .waiting .ensures),
+      ap (λ (r : Advanced). r .more) (c .waiting .ensures) ∙ sym m,
+    )
+
 enum-told : tie.Need-enum-told
 enum-told c = search needs
 
@@ -56,10 +57,13 @@ gather-requires c κs =
     let start : tie.Start = search in
     let told : tie.After-is-more = search in
     let no : tie.Else1 = search in
-    let known : tie.After-enum-told2 = search in
-    (start .pre .0,
-    ((start .pre .1 .0 .0, sym (told .is-more .ensures) ∙ no .if1 .left, other-opening (start .args .found) (start .args .progress .phase) (known .enum-told2 .given .1) (start .pre .1 .0 .1)),
-    start .pre .1 .1 .0))
+    let known : tie.After-enum-told2 = search in (
+      start .pre .0,
+      (
+        (start .pre .1 .0 .0, sym (told .is-more .ensures) ∙ no .if1 .left, other-opening (start .args .found) (start .args .progress .phase) (known .enum-told2 .given .1) (start .pre .1 .0 .1)),
+        start .pre .1 .1 .0,
+      ),
+    )
 
 enum-told-3 : tie.Need-enum-told-3
 enum-told-3 c = search needs
@@ -69,9 +73,11 @@ finish-requires c κs =
     let start : tie.Start = search in
     let told : tie.After-is-more = search in
     let no : tie.Else1 = search in
-    let known : tie.After-enum-told3 = search in
-    (start .pre .1 .1 .0, sym (told .is-more .ensures) ∙ no .if1 .left,
-    other-message (start .args .found) (start .args .progress .phase) (known .enum-told3 .given .1) (start .pre .1 .0 .1))
+    let known : tie.After-enum-told3 = search in (
+      start .pre .1 .1 .0,
+      sym (told .is-more .ensures) ∙ no .if1 .left,
+      other-message (start .args .found) (start .args .progress .phase) (known .enum-told3 .given .1) (start .pre .1 .0 .1),
+    )
 
 same-length : tie.Need-same-length
 same-length c = search needs
@@ -83,9 +89,11 @@ returns-2 c =
     let no : tie.Else1 = search in
     let known : tie.After-enum-told = search in
     let done : tie.After-on-start = search in
-    let a = start .args in
-    (λ o stage h. rw (stage-start (a .progress) (lendElements (a .element-data .now) (a .prices .now) o) (start .pre .1 .1 .1) (known .enum-told .given .1) stage h)
-    (done .on-start .ensures .0 _ (a .s .now)), done .on-start .ensures .1 ∙ sym (sym (told .is-more .ensures) ∙ no .if1 .left))
+    let a = start .args in (
+      λ o stage h. rw (stage-start (a .progress) (lendElements (a .element-data .now) (a .prices .now) o) (start .pre .1 .1 .1) (known .enum-told .given .1) stage h)
+          (done .on-start .ensures .0 _ (a .s .now)),
+      done .on-start .ensures .1 ∙ sym (sym (told .is-more .ensures) ∙ no .if1 .left),
+    )
 
 same-length-2 : tie.Need-same-length-2
 same-length-2 c = search needs
@@ -101,11 +109,12 @@ returns-3 c =
     let done : tie.After-gather = search in
     let start = start-of done in
     let known = elements-of done in
-    let a = start .args in
-    (λ o stage h.
-    let i = stage-elements (a .progress) (lendElements (a .element-data .now) (a .prices .now) o) (start .pre .1 .1 .1) (known .enum-told2 .given .1) stage h in
-    rw (i .is) (done .gather .ensures .0 (i .heading) (i .values) o (i .holds)),
-    done .gather .ensures .1 ∙ sym (more-not done))
+    let a = start .args in (
+      λ o stage h.
+          let i = stage-elements (a .progress) (lendElements (a .element-data .now) (a .prices .now) o) (start .pre .1 .1 .1) (known .enum-told2 .given .1) stage h in
+          rw (i .is) (done .gather .ensures .0 (i .heading) (i .values) o (i .holds)),
+      done .gather .ensures .1 ∙ sym (more-not done),
+    )
 
 same-length-5 : tie.Need-same-length-5
 same-length-5 c = search needs
@@ -117,9 +126,11 @@ returns-4 c =
     let no : tie.Else1 = search in
     let known : tie.After-enum-told3 = search in
     let done : tie.After-finish = search in
-    let a = start .args in
-    (λ o stage h. rw (stage-messages (a .progress) (lendElements (a .element-data .now) (a .prices .now) o) (start .pre .1 .1 .1) (known .enum-told3 .given .1) stage h .is)
-    (done .finish .ensures .0 _ _ _ (a .s .now)), done .finish .ensures .1 ∙ sym (sym (told .is-more .ensures) ∙ no .if1 .left))
+    let a = start .args in (
+      λ o stage h. rw (stage-messages (a .progress) (lendElements (a .element-data .now) (a .prices .now) o) (start .pre .1 .1 .1) (known .enum-told3 .given .1) stage h .is)
+          (done .finish .ensures .0 _ _ _ (a .s .now)),
+      done .finish .ensures .1 ∙ sym (sym (told .is-more .ensures) ∙ no .if1 .left),
+    )
 
 pub take-field-spec : {M : Type 1} → statement M
 take-field-spec =

@@ -6,7 +6,6 @@ use borrow.Author.Needs.{needs}
 use Rattle.runner.proofs.fields.task_of.Statement.{statement}
 use Rattle.runner.proofs.fields.task_of.Tie as tie
 
-
 enum-told : tie.Need-enum-told
 enum-told c = search needs
 
@@ -28,18 +27,21 @@ returns c =
     let start : tie.Start = search in
     let told : tie.After-enum-told = search in
     sym (ap (λ (p : Phase). taskOf p (start .args .found)) (told .enum-told .given .1))
+
 returns-2 : tie.Need-returns-2
 unfolding taskOf
 returns-2 c =
     let start : tie.Start = search in
     let told : tie.After-enum-told2 = search in
     c .opening-task .ensures ∙ sym (ap (λ (p : Phase). taskOf p (start .args .found)) (told .enum-told2 .given .1))
+
 returns-3 : tie.Need-returns-3
 unfolding taskOf
 returns-3 c =
     let start : tie.Start = search in
     let told : tie.After-enum-told3 = search in
     c .message-task .ensures ∙ sym (ap (λ (p : Phase). taskOf p (start .args .found)) (told .enum-told3 .given .1))
+
 pub task-of-spec : {M : Type 1} → statement M
 task-of-spec =
     tie.close

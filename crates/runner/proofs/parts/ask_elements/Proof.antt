@@ -10,7 +10,6 @@ use borrow.Author.Needs.{needs}
 use Rattle.runner.proofs.parts.ask_elements.Statement.{statement}
 use Rattle.runner.proofs.parts.ask_elements.Tie as tie
 
-
 -- where the parts end
 fit : (c : tie.After-ends-of) → EndsFit (c .ends-of .result)
 fit c = let start : tie.Start = search in ends-fit (start .args .book) (start .pre .0) (c .ends-of .result) (c .ends-of .ensures)
@@ -25,6 +24,7 @@ slice-aggregate-elements-right c =
     let f = fit ends in
     let z = start .pre .1 in
     sym (length-take-le (ends .ends-of .result .described) (start .args .element-data .now) (omega arith))
+
 slice-aggregate-elements-right-2 : tie.Need-slice-aggregate-elements-right-2
 slice-aggregate-elements-right-2 c =
     let start : tie.Start = search in
@@ -32,6 +32,7 @@ slice-aggregate-elements-right-2 c =
     let f = fit ends in
     let z = start .pre .1 in
     sym (length-take-le (ends .ends-of .result .priced) (start .args .prices .now) (omega arith))
+
 elements-right-requires : tie.Need-elements-right-requires
 unfolding endsOf
 elements-right-requires c κs =
@@ -40,10 +41,14 @@ elements-right-requires c κs =
     let f = fit ends in
     let z = start .pre .1 in
     let a = start .args in
-    let e = ends .ends-of .ensures in
-    (start .pre .0 .elements,
-    (length-take-le (ends .ends-of .result .described) (a .element-data .now) (omega arith) ∙ ap (λ (x : Ends). x .described) e,
-    length-take-le (ends .ends-of .result .priced) (a .prices .now) (omega arith) ∙ ap (λ (x : Ends). x .priced) e))
+    let e = ends .ends-of .ensures in (
+      start .pre .0 .elements,
+      (
+        length-take-le (ends .ends-of .result .described) (a .element-data .now) (omega arith) ∙ ap (λ (x : Ends). x .described) e,
+        length-take-le (ends .ends-of .result .priced) (a .prices .now) (omega arith) ∙ ap (λ (x : Ends). x .priced) e,
+      ),
+    )
+
 returns : tie.Need-returns
 returns c o =
     let start : tie.Start = search in

@@ -9,7 +9,6 @@ use borrow.Author.Needs.{needs}
 use Rattle.runner.proofs.parts.ask_opening.Statement.{statement}
 use Rattle.runner.proofs.parts.ask_opening.Tie as tie
 
-
 -- what is lent, and any other tables
 abbrev lent : tie.Start → Lists → Lists
 lent s o = lendElements (s .args .element-data .now) (s .args .prices .now) o
@@ -24,6 +23,7 @@ ask-elements-requires c κs =
     let yes : tie.Then1 = search in
     let few : tie.Then2 = search in
     (limited-fitted (start .args .book) nothing (sym (limited .is-limited .ensures nothing) ∙ yes .if1 .taken) (few .if2 .taken), start .pre)
+
 returns : tie.Need-returns
 returns c o =
     let start : tie.Start = search in
@@ -37,6 +37,7 @@ returns c o =
     let n = g .elements in
     let z = start .pre in
     c .ask-elements .ensures o ∙ sym (asked-elements b t g (omega arith) (omega arith) w)
+
 returns-2 : tie.Need-returns-2
 returns-2 c o = sym (too-many-points _ (c .if2 .left))
 

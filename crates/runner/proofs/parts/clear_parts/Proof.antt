@@ -8,7 +8,6 @@ use borrow.Author.Needs.{needs}
 use Rattle.runner.proofs.parts.clear_parts.Statement.{statement}
 use Rattle.runner.proofs.parts.clear_parts.Tie as tie
 
-
 -- what is lent, and any other tables
 abbrev lent : tie.Start → Lists → Lists
 lent s o =
@@ -31,28 +30,36 @@ ends-of-requires c κs = search needs
 
 slice-relend-prefix-clear-tables : tie.Need-slice-relend-prefix-clear-tables
 slice-relend-prefix-clear-tables c = let ends : tie.After-ends-of = search in inside ends .readings
+
 slice-aggregate-clear-tables : tie.Need-slice-aggregate-clear-tables
 slice-aggregate-clear-tables c =
     let ends : tie.After-ends-of = search in
     sym (length-take-le (ends .ends-of .result .readings) (start-of ends .args .readings .now) (inside ends .readings))
+
 slice-relend-prefix-clear-tables-2 : tie.Need-slice-relend-prefix-clear-tables-2
 slice-relend-prefix-clear-tables-2 c = let ends : tie.After-ends-of = search in inside ends .blocks
+
 slice-aggregate-clear-tables-2 : tie.Need-slice-aggregate-clear-tables-2
 slice-aggregate-clear-tables-2 c =
     let ends : tie.After-ends-of = search in
     sym (length-take-le (ends .ends-of .result .blocks) (start-of ends .args .blocks .now) (inside ends .blocks))
+
 slice-relend-prefix-clear-tables-3 : tie.Need-slice-relend-prefix-clear-tables-3
 slice-relend-prefix-clear-tables-3 c = let ends : tie.After-ends-of = search in inside ends .lines
+
 slice-aggregate-clear-tables-3 : tie.Need-slice-aggregate-clear-tables-3
 slice-aggregate-clear-tables-3 c =
     let ends : tie.After-ends-of = search in
     sym (length-take-le (ends .ends-of .result .lines) (start-of ends .args .lines .now) (inside ends .lines))
+
 slice-relend-prefix-clear-tables-4 : tie.Need-slice-relend-prefix-clear-tables-4
 slice-relend-prefix-clear-tables-4 c = let ends : tie.After-ends-of = search in inside ends .sent
+
 slice-aggregate-clear-tables-4 : tie.Need-slice-aggregate-clear-tables-4
 slice-aggregate-clear-tables-4 c =
     let ends : tie.After-ends-of = search in
     sym (length-take-le (ends .ends-of .result .lines) (start-of ends .args .sent .now) (inside ends .sent))
+
 clear-tables-requires : tie.Need-clear-tables-requires
 clear-tables-requires c κs = search needs
 

@@ -4,7 +4,6 @@ use borrow.Author.Needs.{needs}
 use Rattle.runner.proofs.texts.message_done.Statement.{statement}
 use Rattle.runner.proofs.texts.message_done.Tie as tie
 
-
 put-reply-requires : tie.Need-put-reply-requires
 put-reply-requires c κs = search needs
 

@@ -4,17 +4,18 @@ use borrow.Author.Needs.{needs}
 use Rattle.runner.proofs.texts.opening_done.Statement.{statement}
 use Rattle.runner.proofs.texts.opening_done.Tie as tie
 
-
 days-in-month-requires : tie.Need-days-in-month-requires
 days-in-month-requires c κs =
     let start : tie.Start = search in
     let yes : tie.Then1 = search in
     start .pre .0 (yes .if1 .taken)
+
 listed-first-day-requires : tie.Need-listed-first-day-requires
 listed-first-day-requires c κs =
     let start : tie.Start = search in
     let yes : tie.Then1 = search in
     start .pre .0 (yes .if1 .taken)
+
 put-book-requires : tie.Need-put-book-requires
 put-book-requires c κs = search needs
 

@@ -11,7 +11,6 @@ use native.Mathlib.Omega.{arith}
 use Rattle.runner.proofs.texts.put_records.Statement.{statement}
 use Rattle.runner.proofs.texts.put_records.Tie as tie
 
-
 abbrev Inv-loop : tie.InvT-loop
 Inv-loop records count out₀ from written₀ i₀ out written i =
     (i ≤ count) × Written (i * longestLine) out₀ out from written (recordLines (listTo (recordAt records) i))

@@ -5,7 +5,6 @@ use borrow.Author.Needs.{needs}
 use Rattle.runner.proofs.texts.put_reply.Statement.{statement}
 use Rattle.runner.proofs.texts.put_reply.Tie as tie
 
-
 number-requires : tie.Need-number-requires
 number-requires c κs = search needs
 

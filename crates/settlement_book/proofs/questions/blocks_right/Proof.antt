@@ -1,4 +1,4 @@
--- `book::blocks_right` meets its contract: every mark passed so far is right, and one that is not answers.
+-- `blocks_right` meets its contract: every mark passed so far is right, and one that is not answers.
 use Prim.Native.Nat.{ℕ, _≤_, _<_, _-_}
 use mathlib.Core.Path.{_≡_, sym}
 use borrow.Author.Tests.{le-leb, lt-leb}
