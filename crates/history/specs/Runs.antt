@@ -17,11 +17,11 @@ use Rattle.settlement_book.specs.Numbers.{fieldsSize, fieldsIn}
 -- ---- messages as numbers
 
 -- the one at a place
-abbrev pub fieldsAt : List ℕ → ℕ → Fields
+abbrev pub fieldsAt : (numbers : List ℕ) → (i : ℕ) → Fields
 fieldsAt inputs i = fieldsIn (take fieldsSize (drop (i * fieldsSize) inputs))
 
 -- the first n of them
-unfoldable pub messagesOf : List ℕ → ℕ → List Fields
+unfoldable pub messagesOf : (numbers : List ℕ) → (count : ℕ) → List Fields
 messagesOf inputs n = listTo (fieldsAt inputs) n
 
 -- ---- the rules' run

@@ -3,12 +3,13 @@ use Prim.Native.Nat.{ℕ, _+_, _≤_, _<_}
 use native.Mathlib.Omega.{arith}
 use mathlib.Core.Path.{_≡_, refl, sym, ap, subst, _∙_}
 use mathlib.Core.Logic.{_≢_}
-use mathlib.Core.Bool.{Bool, true, false, _&&_}
+use mathlib.Core.Bool.{Bool, true, false}
 use mathlib.Core.List.{List}
 use lib.Dec.{T, eqb, leb, ltb, ltb→lt}
 use lib.IntN.{ℤ}
 use lib.ListN.{length, take, length-take}
 use borrow.Author.Tests.{eq-eqb, ne-eqb, eqb-true}
+use Rattle.calendar.proofs.Entries.{both-left, both-right}
 use Rattle.calendar.proofs.MonthLaws.{month-within}
 use Rattle.rules.specs.declared.Answer.{Answer}
 use Rattle.rules.specs.declared.Book.{Book}
@@ -40,14 +41,6 @@ use Rattle.settlement.specs.Replies.{Replied}
 use Rattle.settlement_book.specs.Numbers.{bookIn, numbersIn, lineNumbers, lineAfter, InKrone, dayAfter, dayAnswerNumber}
 use Rattle.settlement_book.specs.Promises.{OpensIn, RepliesIn, LineIn, PeriodsIn, DayIn}
 use Rattle.settlement_book.proofs.Lists.{pair-length}
-
-left : (a b : Bool) → T (a && b) → T a
-left true b h = tt
-left false b h = absurd h
-
-right : (a b : Bool) → T (a && b) → T b
-right true b h = h
-right false b h = absurd h
 
 -- a test that is false of a number that is 0
 not-zero : (n : ℕ) → false ≡ eqb n 0 → n ≢ 0
@@ -117,7 +110,7 @@ periods-no-book w p e n h z lent =
 -- a day that the query names is one of the month
 day-in-month : (o : Opening) (t : Tables) (p d : ℕ) → T (lacksHolder o t p d) → d < monthFirst o + monthDays o
 unfolding lacksHolder question16
-day-in-month o t p d h = ltb→lt _ _ (right (leb (monthFirst o) d) (ltb d (monthFirst o + monthDays o)) (left (question16 o d) _ h))
+day-in-month o t p d h = ltb→lt _ _ (both-right (leb (monthFirst o) d) (ltb d (monthFirst o + monthDays o)) (both-left (question16 o d) _ h))
 
 pub day-in-numbers : (w : World) (p : ℕ) (r : DayAnswer) → DayTold w p r → (n : ℕ) → n ≡ dayAnswerNumber r → (lent out : ℕ) → out ≡ dayAfter r lent
     → DayIn w p n lent out

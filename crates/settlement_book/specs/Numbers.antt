@@ -81,7 +81,7 @@ abbrev pub noDay : ℕ
 noDay = endOfDays
 
 -- a lent day afterwards: a refusal leaves it
-abbrev pub dayAfter : DayAnswer → ℕ → ℕ
+abbrev pub dayAfter : DayAnswer → (lent : ℕ) → ℕ
 dayAfter (DayAnswer.Day d) lent = d
 dayAfter DayAnswer.NoDay lent = noDay
 dayAfter (DayAnswer.Refused a) lent = lent
