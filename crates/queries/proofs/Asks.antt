@@ -33,11 +33,6 @@ module _ (w : World) where
     unfolding ask
     day-open p l = sym (day-asks p) ∙ rw (lt-ltb _ _ l)
 
-    -- a point and an element of it
-    pub periods-open : (p e : ℕ) → p < w .opening .points → e < w .opening .elements → periodsNumber w p e ≡ 0
-    unfolding ask
-    periods-open p e l k = sym (periods-asks p e) ∙ rw (lt-ltb _ _ l, lt-ltb _ _ k)
-
   -- the book is whole, and the rest has passed
   pub line-passed : (s e : ℕ) → lineNumber w s e ≡ 0 → Whole w × InBook (w .opening) s e
   unfolding lineNumber

@@ -1,5 +1,5 @@
 -- What is lent with a book, as one value, and the worlds that contracts speak of. A `requires` sees a table as a reference, an `ensures` as
--- the reference at entry and at exit; here alone `now`, `entry` and `exit` are named.
+-- the reference at entry and at exit.
 use Prim.Native.Nat.{ℕ}
 use mathlib.Core.List.{List, []}
 use lib.IntN.{ℤ}

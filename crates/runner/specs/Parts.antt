@@ -2,7 +2,7 @@
 use Prim.Native.Nat.{ℕ, _*_, _≤_}
 use mathlib.Core.Path.{_≡_}
 use lib.ListN.{length, take}
-use Rattle.calendar.specs.Gregorian.{daysOfMonth, InRange}
+use Rattle.calendar.specs.Gregorian.{daysOfMonth, longestMonth, InRange}
 use Rattle.rules.specs.declared.Book.{Book}
 use Rattle.rules.specs.Basics.{allTo}
 use Rattle.rules.specs.Sizes.{elementSize, hourPlaces, lineSize, mostElements, mostLines, mostSuppliers, places, pricePlaces}
@@ -13,10 +13,6 @@ use Rattle.rules.specs.Lent.{Lists, worldIn}
 use Rattle.recording.specs.Opened.{freshBook}
 use Rattle.file.specs.Program.{settlePoints}
 use Rattle.runner.specs.declared.parts.Ends.{Ends}
-
--- no month is longer
-abbrev pub longestMonth : ℕ
-longestMonth = 31
 
 -- 64 elements, 16 suppliers, and 16 points of 31 days of 24 hours
 pub record Sized (t : Lists) : Type 0 where

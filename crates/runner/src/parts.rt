@@ -30,13 +30,13 @@ pub const DATA_PLACES: usize = MOST_ELEMENTS as usize * ELEMENT_SIZE;
 
 pub const PRICE_TABLE_PLACES: usize = MOST_ELEMENTS as usize * PRICE_PLACES;
 
-pub const READING_PLACES: usize = 16 * 31 * HOUR_PLACES;
+pub const READING_PLACES: usize = BLOCK_PLACES * 31 * HOUR_PLACES;
 
-pub const BLOCK_PLACES: usize = 16;
+pub const BLOCK_PLACES: usize = SETTLE_POINTS as usize;
 
 pub const LINE_TABLE_PLACES: usize = MOST_LINES * LINE_SIZE;
 // Six numbers for each of 1,024 records.
-pub const RECORD_PLACES: usize = 1024 * RECORD_SIZE;
+pub const RECORD_PLACES: usize = MOST_LINES * RECORD_SIZE;
 
 // Where the parts of a book end.
 pub struct Ends {

@@ -29,6 +29,7 @@ use rules::Book;
 use rules::Fields;
 use settlement::Reply;
 use settlement::refused;
+use tables::pair_part;
 use validation::questions::ask_pair;
 use validation::questions::number;
 
@@ -310,7 +311,7 @@ pub extern "C" fn settlement_book_periods_within(
         *count = 0;
         return asked;
     }
-    let part = queries::periods(held, links, point, element);
+    let part = pair_part(links, held.periods as usize, point, element);
     copy_front(part, rows);
     *count = part.len() as u64;
     0

@@ -4,12 +4,15 @@ use mathlib.Core.Path.{_≡_, sym, ap, subst, _∙_}
 use mathlib.Core.List.{List}
 use native.Mathlib.Nat.{le-trans}
 use lib.ListN.{length}
+use native.Mathlib.Omega.{arith}
 use Rattle.rules.specs.declared.Book.{Book}
 use Rattle.rules.specs.Lent.{Lists, worldIn, lendLinks}
 use Rattle.rules.specs.Queries.{periodsNumber, periodsQuery}
 use Rattle.rules.specs.Whole.{Whole}
+use Rattle.rules.proofs.Parts.{lengths}
+use Rattle.tables.proofs.Right.{whole-rows}
 use Rattle.queries.proofs.Asks.{periods-asks, periods-passed}
-use Rattle.queries.proofs.Answered.{periods-refused}
+use Rattle.queries.proofs.Answered.{periods-answered, periods-refused}
 use Rattle.settlement_book.specs.Numbers.{bookIn, frontOf}
 use Rattle.settlement_book.proofs.Answers.{periods-length}
 use borrow.Author.Needs.{needs}
@@ -39,7 +42,7 @@ asked c o whole =
     c .number .ensures ∙ pair .ask-pair .ensures
     ∙ periods-asks (worldIn (named-of c .book-of .result) (lent (start-of (named-of c)) o)) (held-whole (named-of c) o whole) _ _
 
-abbrev found-of : tie.After-copy-front → tie.After-periods
+abbrev found-of : tie.After-copy-front → tie.After-pair-part
 found-of c = search
 
 abbrev numbered-of : tie.After-copy-front → tie.After-number
@@ -68,25 +71,33 @@ returns c o whole =
     let q = periods-refused (worldIn (bookIn (a .book .now)) (lent start o)) (a .point) (a .element) (λ z. no .if1 .taken (n ∙ z)) in
     record { number = n; count = ap length q; rows = ap (λ (x : List ℕ). frontOf x (a .rows .now)) q }
 
-periods-requires : tie.Need-periods-requires
-periods-requires c κs =
+pair-part-requires : tie.Need-pair-part-requires
+pair-part-requires c κs =
     let numbered : tie.After-number = search in
     let yes : tie.Else1 = search in
     let named = named-of numbered in
     let start = start-of named in
-    let o = start .pre .1 .0 in (
-      (o, held-whole named o (start .pre .1 .1)),
-      periods-passed (worldIn (named .book-of .result) (lent start o)) _ _ (sym (asked numbered o (start .pre .1 .1)) ∙ yes .if1 .left) .1,
-    )
+    let o = start .pre .1 .0 in
+    let whole = held-whole named o (start .pre .1 .1) in
+    let w = worldIn (named .book-of .result) (lent start o) in
+    let k = periods-passed w _ _ (sym (asked numbered o (start .pre .1 .1)) ∙ yes .if1 .left) .1 in
+    let n = lengths w whole .limited in
+    let i = k .0 in
+    let j = k .1 in
+    let points = n .points in
+    let elements = n .elements in
+    (whole-rows (named .book-of .result) (lent start o) whole .links, record { point = omega arith; element = omega arith })
 
 copy-front-requires : tie.Need-copy-front-requires
 copy-front-requires c κs =
-    let found : tie.After-periods = search in
+    let found : tie.After-pair-part = search in
     let numbered : tie.After-number = search in
     let named = named-of numbered in
     let start = start-of named in
     let o = start .pre .1 .0 in
-    rw (found .periods .ensures o (held-whole named o (start .pre .1 .1)))
+    let yes : tie.Else1 = search in
+    let w = worldIn (named .book-of .result) (lent start o) in
+    rw (found .pair-part .ensures ∙ periods-answered w _ _ (sym (asked numbered o (start .pre .1 .1)) ∙ yes .if1 .left))
     (le-trans (periods-length (worldIn (named .book-of .result) (lent start o)) _ _) (start .pre .0 .1))
 
 same-length : tie.Need-same-length
@@ -102,7 +113,8 @@ returns-2 c o whole =
     let start = start-of named in
     let a = start .args in
     let e = named .book-of .ensures in
-    let rows = found .periods .ensures o (held-whole named o whole)
+    let w = worldIn (named .book-of .result) (lent start o) in
+    let rows = found .pair-part .ensures ∙ periods-answered w _ _ (sym (asked numbered o whole) ∙ yes .if1 .left)
     ∙ ap (λ (b : Book). periodsQuery (worldIn b (lent start o)) (a .point) (a .element)) e in
     record {
       number = sym (yes .if1 .left) ∙ asked numbered o whole
@@ -119,7 +131,7 @@ settlement-book-periods-within-spec =
     ask-pair-requires
     number-requires
     returns
-    periods-requires
+    pair-part-requires
     copy-front-requires
     same-length
     returns-2)
