@@ -18,16 +18,16 @@ use Rattle.rules.specs.Claim.{Event, History, advance, advanceAll, begin}
 use Rattle.rules.proofs.Passed.{records-fit}
 use Rattle.rules.proofs.Demand3.{advance-snoc}
 use Rattle.rules.proofs.Ranges.{length-listTo}
-use Rattle.ledger.specs.RecordNumbers.{numbersOf, numbersAfter, recordNumbers}
+use Rattle.ledger.specs.RecordNumbers.{noRecord, numbersOf, numbersAfter, recordNumbers}
 use Rattle.ledger.proofs.RecordNumbers.{length-numbers, length-after, numbers-none}
 use Rattle.settlement.specs.declared.Reply.{Reply}
 use Rattle.settlement.specs.Replies.{roomIn, Replied}
-use Rattle.history.specs.Runs.{fieldsAt, messagesOf, anyRecord, lentWith, eventsFrom, runFrom, answersTo, Followed}
+use Rattle.history.specs.Runs.{fieldsAt, messagesOf, lentWith, eventsFrom, runFrom, answersTo, Followed}
 
 -- ---- a lent list counts by its length
 
-any-long : (room : ℕ) → length (replicate room anyRecord) ≡ room
-any-long room = length-replicate room anyRecord
+any-long : (room : ℕ) → length (replicate room noRecord) ≡ room
+any-long room = length-replicate room noRecord
 
 module _ (h : History) (f : Fields) (room : ℕ) where
   advance-world : advance h (lentWith f room) .world ≡ step (h .world) f room
@@ -170,7 +170,7 @@ module _ (w mid : World) (fs : List Fields) (count : ℕ) (lent list : List ℤ)
     count-more : count + r .records ≡ length (runFrom w (fs ++ (f ∷ [])) (roomIn lent) .records)
     count-more = ap₂ (λ (a b : ℕ). a + b) (g .count-is) (q .count) ∙ sym (length-append (h .records) _) ∙ ap length written-more
 
-    answer-is : numberOf (r .answer) ≡ answer (h .world) f (length (replicate room anyRecord))
+    answer-is : numberOf (r .answer) ≡ answer (h .world) f (length (replicate room noRecord))
     answer-is = q .number ∙ rw (room-left, g .world, any-long room)
 
     answers-after : length fs < length table

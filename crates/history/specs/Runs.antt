@@ -2,15 +2,14 @@
 use Prim.Native.Nat.{ℕ, _+_, _-_, _*_}
 use mathlib.Core.Path.{_≡_}
 use mathlib.Core.List.{List, [], _∷_, _++_}
-use lib.IntN.{ℤ, pos}
+use lib.IntN.{ℤ}
 use lib.ListN.{length, take, drop, replicate}
 use Rattle.rules.specs.declared.Fields.{Fields}
-use Rattle.rules.specs.declared.Record.{Record}
 use Rattle.rules.specs.Basics.{listTo}
 use Rattle.rules.specs.World.{World}
 use Rattle.rules.specs.Effects.{answer, step, recordsOf}
 use Rattle.rules.specs.Claim.{Event, History, advanceAll, begin}
-use Rattle.ledger.specs.RecordNumbers.{numbersAfter}
+use Rattle.ledger.specs.RecordNumbers.{noRecord, numbersAfter}
 use Rattle.settlement.specs.Replies.{roomIn}
 use Rattle.settlement_book.specs.Numbers.{fieldsSize, fieldsIn}
 
@@ -26,14 +25,10 @@ messagesOf inputs n = listTo (fieldsAt inputs) n
 
 -- ---- the rules' run
 
--- a record that stands in a lent list for whatever is there
-unfoldable pub anyRecord : Record
-anyRecord = record { kind = 0; supplier = 0; element = 0; quantity = pos 0; kroner = pos 0; billionths = 0 }
-
 -- a message and a list with room for so many records. Of the list the rules read nothing but its length, so any list of that length would
 -- do.
 unfoldable pub lentWith : Fields → ℕ → Event
-lentWith f room = record { fields = f; lent = replicate room anyRecord }
+lentWith f room = record { fields = f; lent = replicate room noRecord }
 
 -- the events of a run: each message is lent the places that the records before it have left
 unfoldable pub eventsFrom : World → List Fields → (room : ℕ) → List Event

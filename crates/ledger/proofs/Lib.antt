@@ -1,4 +1,4 @@
--- Laws of lines with changes, of what a round sends, and of the list of records.
+-- Laws of lines with changes, of what a round sends, and of the list of records; and what functions that are walked by hand share.
 pub mod ListFronts
 pub mod AmountLaws
 pub mod Bounds
@@ -7,3 +7,5 @@ pub mod MovedLines
 pub mod Own
 pub mod RecordNumbers
 pub mod RoundLaws
+pub mod Lending
+pub mod LocalArray

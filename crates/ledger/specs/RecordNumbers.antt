@@ -32,6 +32,10 @@ recordAt ns i =
       billionths = natAbs (getD ns (i * recordSize + 5) (pos 0));
     }
 
+-- what stands in a list where no record does
+abbrev pub noRecord : Record
+noRecord = record { kind = 0; supplier = 0; element = 0; quantity = pos 0; kroner = pos 0; billionths = 0 }
+
 -- a record stands there: kind, supplier, element and billionths are not below zero
 pub record RecordPlaces (ns : List ℤ) (i : ℕ) : Type 0 where
   pub inside : i * recordSize + 5 < length ns

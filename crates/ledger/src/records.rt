@@ -2,10 +2,12 @@
 ghost use mathlib.Core.Path.{_≡_};
 ghost use mathlib.Core.List.{_++_};
 ghost use Prim.Native.Nat.{ℕ, _≤_, _<_};
-ghost use lib.ListN.{length, drop};
+ghost use lib.ListN.{length, drop, replicate};
 ghost use Rattle.rules.specs.Basics.{listTo};
+ghost use Rattle.rules.specs.Sizes.{mostLines};
 ghost use Rattle.rules.specs.Lent.{was, left};
-ghost use Rattle.ledger.specs.RecordNumbers.{recordAt, RecordPlaces};
+ghost use Rattle.ledger.specs.RecordNumbers.{noRecord, recordAt, RecordPlaces};
+use rules::MOST_LINES;
 use rules::RECORD_SIZE;
 use rules::Record;
 
@@ -35,4 +37,22 @@ pub fn put_list(list: &mut [Record], numbers: &[i64], count: usize)
         list[i] = record_at(numbers, i);
         i += 1;
     }
+}
+
+// The first `count` records as a list of 1,024 structs; entries past them are zeros. For callers that print a round's records, or pass them
+// on, and lend no list of their own. Linear in the list.
+pub fn listed(numbers: &[i64], count: usize) -> [Record; MOST_LINES]
+    requires { ⌜ (count ≤ mostLines) × ((i : ℕ) → i < count → RecordPlaces (now numbers) i) ⌝ }
+    ensures { λ r. ⌜ r ≡ listTo (recordAt (was numbers)) count ++ drop count (replicate mostLines noRecord) ⌝ }
+{
+    let mut list = [Record {
+        kind: 0,
+        supplier: 0,
+        element: 0,
+        quantity: 0,
+        kroner: 0,
+        billionths: 0,
+    }; MOST_LINES];
+    put_list(&mut list, numbers, count);
+    list
 }

@@ -1,4 +1,2 @@
--- What every hand-walked function shares, and laws of lists of records.
-pub mod Lending
-pub mod LocalArray
+-- Laws of a list of records and of the room that it has.
 pub mod Rooms

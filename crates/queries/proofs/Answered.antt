@@ -17,9 +17,7 @@ use Rattle.rules.specs.Lines.{Measure}
 use Rattle.rules.specs.Rows.{pairRows}
 use Rattle.rules.specs.World.{World, rowsOf, lineAt, lineCount, storedAt, stored}
 use Rattle.rules.specs.WellFormed.{lineRight, linesRight, linePlaces}
-use Rattle.rules.specs.Effects.{askBook}
 use Rattle.rules.specs.Queries.{lineNumber, lineQuery, lineNamed, periodsNumber, periodsQuery}
-use Rattle.rules.proofs.BookLaws.{book-refused}
 use Rattle.rules.specs.Answers.{numberOf, lineResult}
 use Rattle.rules.proofs.Ranges.{all-at}
 use Rattle.rules.proofs.Stored.{line-below}
@@ -90,8 +88,3 @@ module _ (w : World) (p e : ℕ) where
   pub periods-refused : periodsNumber w p e ≢ 0 → [] ≡ periodsQuery w p e
   unfolding periodsQuery
   periods-refused h = rw (ne-eqb _ _ h)
-
-  -- of a book that is not well formed
-  pub periods-no-book : askBook w 0 ≢ 0 → [] ≡ periodsQuery w p e
-  unfolding periodsNumber
-  periods-no-book h = periods-refused (λ z. h (sym (book-refused w h _) ∙ z))

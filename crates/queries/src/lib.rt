@@ -1,13 +1,13 @@
 // The queries of a book that is well formed: the line of a supplier and an element, the periods of a point and an element, and a day
-// without a holder. Each asks its own questions, 6 to 8; the periods also of a book that is not.
+// without a holder. Each asks its own questions, 6 to 8, but for the periods, which are handed the answer to theirs.
 ghost use mathlib.Core.Path.{_≡_};
 ghost use Prim.Native.Nat.{_+_, _-_, _*_, _≤_, _<_};
 ghost use lib.Dec.{ltb};
 ghost use Rattle.rules.specs.Basics.{within, anyTo};
 ghost use Rattle.rules.specs.Sizes.{endOfDays, lineSize, mostElements, mostPoints, mostSuppliers};
 ghost use Rattle.rules.specs.World.{linkedOn};
-ghost use Rattle.rules.specs.Effects.{ask, askBook};
-ghost use Rattle.rules.specs.Queries.{periodsQuery, lacksHolder};
+ghost use Rattle.rules.specs.Effects.{ask};
+ghost use Rattle.rules.specs.Queries.{periodsNumber, periodsQuery, lacksHolder};
 ghost use Rattle.rules.specs.Answers.{numberOf};
 ghost use Rattle.rules.specs.Whole.{Whole};
 ghost use Rattle.rules.specs.Lent.{Lists, worldIn, openingIn, tablesIn, lendLinks, lendRows, lendLines, was};
@@ -29,7 +29,6 @@ use rules::LineAnswer;
 use tables::pair_part;
 use tables::quantity_on;
 use validation::questions::ask_element;
-use validation::questions::ask_pair;
 use validation::questions::ask_point;
 use validation::questions::number;
 
@@ -77,21 +76,19 @@ pub fn line(book: Book, lines: &[i64], supplier: u64, element: u64) -> LineAnswe
 
 // ---- the periods of a point and element
 
-// Everything recorded for a point and an element, as that part of the link table: of any book, beside what questions 2 to 5 have answered.
-// The empty part where one of those, or question 7 or 8 (`ask_pair`), says no. Logarithmic in the rows.
+// Everything recorded for a point and an element, as that part of the link table; the empty part where the query is refused. `asked` is what
+// its questions have answered: 2 to 5 of the book, then 7 and 8 (`validation::questions::ask_pair`). Logarithmic in the rows.
 pub fn periods(asked: Answer, book: Book, links: &[u64], point: u64, element: u64) -> &[u64]
-    requires { ⌜ (numberOf asked ≡ 0 → ((o : Lists) × Whole (worldIn book (lendLinks (now links) o)))) ⌝ }
+    requires { ⌜ (numberOf asked ≡ 0 → ((o : Lists) × periodsNumber (worldIn book (lendLinks (now links) o)) point element ≡ 0)) ⌝ }
     ensures { λ r. ⌜ ((o : Lists) →
         let w = worldIn book (lendLinks (was links) o) in
-        numberOf asked ≡ askBook w 0 → now r ≡ periodsQuery w point element) ⌝ }
+        numberOf asked ≡ periodsNumber w point element → now r ≡ periodsQuery w point element) ⌝ }
 {
-    if number(asked) != 0 {
-        return &links[0..0];
+    if number(asked) == 0 {
+        pair_part(links, book.periods as usize, point, element)
+    } else {
+        &links[0..0]
     }
-    if number(ask_pair(book, point, element)) != 0 {
-        return &links[0..0];
-    }
-    pair_part(links, book.periods as usize, point, element)
 }
 
 // ---- a day without a holder

@@ -5,7 +5,7 @@ use native.Mathlib.Omega.{arith}
 use mathlib.Core.Path.{_≡_, sym, ap, ap₂, subst, _∙_}
 use mathlib.Core.List.{List, [], _∷_, _++_, append-assoc, append-nil}
 use lib.IntN.{ℤ}
-use lib.ListN.{length}
+use lib.ListN.{length, getD, List·getD-append}
 use borrow.Author.Tests.{ne-eqb}
 use mathlib.Core.Logic.{_≢_}
 use mathlib.Core.Bool.{Bool, true}
@@ -18,6 +18,7 @@ use Rattle.rules.specs.Basics.{listTo}
 use Rattle.rules.specs.World.{World}
 use Rattle.rules.specs.Effects.{written, answer, recordsOf}
 use Rattle.rules.proofs.Passed.{records-fit}
+use Rattle.rules.proofs.Ranges.{length-listTo, getD-listTo}
 use Rattle.ledger.specs.RecordNumbers.{recordAt, RecordPlaces, numbersAfter}
 use Rattle.ledger.proofs.RecordNumbers.{records-read, records-placed}
 use Rattle.settlement.specs.declared.Reply.{Reply}
@@ -57,6 +58,12 @@ module _ (numbers : List ℤ) where
   line-more i a b c from at next v r e w room =
       rw (add-one i, lines-more (listTo (recordAt numbers) i) (recordAt numbers i)) (loosened (omega arith) (joined v (rw e at w) room))
 
+-- an entry of a list that begins with them
+pub listed-at : (f : ℕ → Record) (count i : ℕ) (rest list : List Record) (other : Record) → i < count → list ≡ listTo f count ++ rest
+    → getD list i other ≡ f i
+listed-at f count i rest list other less e =
+    rw (e, List·getD-append (listTo f count) rest other i (rw (length-listTo f count) less)) (getD-listTo f count i other less)
+
 -- a line behind them has room
 pub line-fits : {i from at : ℕ} {a b text : List ℕ} → Written (i * longestLine) a b from at text → (count m : ℕ) → i < count
     → from + count * longestLine ≤ length a → m ≡ length a → at + longestLine ≤ m
@@ -95,6 +102,12 @@ module _ (r : Reply) (message : ℕ) (numbers : List ℤ) where
       → Written longestText a b from next (replyText r message numbers)
   unfolding replyText
   records-put z few w = rw z (loosened (omega arith) w)
+
+  -- a message without records prints nothing
+  pub nothing-put : numberOf (r .answer) ≡ 0 → r .records ≡ 0 → (out : List ℕ) (from : ℕ)
+      → Written longestText out out from from (replyText r message numbers)
+  unfolding replyText recordLines listTo
+  nothing-put z none out from = rw (z, none) (nothing-written longestText out from)
 
   pub refused-put : (question : ℕ) → question ≡ numberOf (r .answer) → question ≢ 0 → {from next : ℕ} {a b : List ℕ}
       → Written longestLine a b from next (refusedLine message question) → Written longestText a b from next (replyText r message numbers)

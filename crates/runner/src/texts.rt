@@ -18,27 +18,28 @@ use file::fields::Phase;
 use file::output::put_book;
 use file::output::put_record;
 use file::output::put_refused;
-use ledger::records::record_at;
+use ledger::records::listed;
 use rules::Book;
 use settlement::Reply;
 use validation::questions::number;
 
-// The lines of the first `count` records that stand as numbers. Linear in them.
+// The lines of the first `count` records, which stand as numbers and go through a list of record structs. Linear in that list.
 fn put_records(records: &[i64], count: usize, out: &mut [u8], from: usize) -> usize
-    requires { ⌜ ((i : ℕ) → i < count → RecordPlaces (now records) i) ⌝ }
+    requires { ⌜ (count ≤ recordPlaces) × ((i : ℕ) → i < count → RecordPlaces (now records) i) ⌝ }
     requires { ⌜ from + count * longestLine ≤ length (now out) ⌝ }
     ensures { λ r. ⌜ Written (count * longestLine) (was out) (left out) from r (recordLines (listTo (recordAt (was records)) count)) ⌝ }
 {
+    let list = listed(records, count);
     let mut written = from;
     let mut i = 0;
     while i < count {
-        written = put_record(out, written, record_at(records, i));
+        written = put_record(out, written, list[i]);
         i += 1;
     }
     written
 }
 
-// The records of a message that is accepted, or its refusal.
+// The records of a message that is accepted, or its refusal. A message without records lays out no list.
 fn put_reply(reply: Reply, message: u64, records: &[i64], out: &mut [u8], from: usize) -> usize
     requires { ⌜ (reply .records ≤ recordPlaces) × ((i : ℕ) → i < reply .records → RecordPlaces (now records) i) ⌝ }
     requires { ⌜ from + longestText ≤ length (now out) ⌝ }
@@ -46,10 +47,13 @@ fn put_reply(reply: Reply, message: u64, records: &[i64], out: &mut [u8], from: 
 {
     let answer = reply.answer;
     let question = number(answer);
-    if question == 0 {
-        put_records(records, reply.records, out, from)
+    if question != 0 {
+        return put_refused(out, from, message, question);
+    }
+    if reply.records == 0 {
+        from
     } else {
-        put_refused(out, from, message, question)
+        put_records(records, reply.records, out, from)
     }
 }
 

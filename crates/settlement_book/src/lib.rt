@@ -29,7 +29,6 @@ use rules::Book;
 use rules::Fields;
 use settlement::Reply;
 use settlement::refused;
-use tables::pair_part;
 use validation::questions::ask_pair;
 use validation::questions::number;
 
@@ -306,15 +305,11 @@ pub extern "C" fn settlement_book_periods_within(
         Whole w → PeriodsIn w point element r (left count) (was rows) (left rows)) ⌝ }
 {
     let held = book_of(book);
-    let asked = number(ask_pair(held, point, element));
-    if asked != 0 {
-        *count = 0;
-        return asked;
-    }
-    let part = pair_part(links, held.periods as usize, point, element);
+    let asked = ask_pair(held, point, element);
+    let part = queries::periods(asked, held, links, point, element);
     copy_front(part, rows);
     *count = part.len() as u64;
-    0
+    number(asked)
 }
 
 // The same of any book and any tables. Linear in what is lent, for the questions of the book.

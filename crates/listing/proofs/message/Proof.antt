@@ -61,8 +61,8 @@ use Rattle.settlement.specs.declared.Reply.{Reply}
 use Rattle.settlement.proofs.Reply as Y
 use Rattle.settlement.proofs.Reply.Laws as Y′
 use Rattle.listing.specs.Listed.{Numbered}
-use Rattle.listing.proofs.Lending.{Loan, loan, at, lent, val, Had, HadShared, lends-again, comes-back, copies}
-use Rattle.listing.proofs.LocalArray.{big-lit, repeated, Elements, at-local, val-local, stands, falls, lends-local, local-back, shares-local, shared-back}
+use Rattle.ledger.proofs.Lending.{Loan, loan, at, lent, val, Had, HadShared, lends-again, comes-back, copies}
+use Rattle.ledger.proofs.LocalArray.{big-lit, repeated, Elements, at-local, val-local, stands, falls, lends-local, local-back, shares-local, shared-back}
 use Rattle.listing.proofs.Rooms.{listed}
 use Rattle.listing.proofs.message_numbers as message-numbers
 use Rattle.listing.proofs.message_numbers.Symbol as message-numbers-def

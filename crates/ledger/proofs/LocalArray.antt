@@ -1,7 +1,8 @@
 -- A local array `[T; n]` that is lent for a lifetime that is made for a call, as a slice. It says nothing of the crate. Assumes `Given`.
 --     big-lit                          a constant of more than one byte evaluates to its number
 --     repeated                         `[x; n]` is the array of n times x, at n times its machine value
---     Elements, stands, falls          its cell, filled so, is its elements in memory; and they are room for the array again
+--     Elements, stands                 its cell, filled so, is its elements in memory
+--     gathers, falls                   they are the array again, and room for it
 --     at-local, val-local              the borrow at a list; its machine value
 --     LentLocal, SharedLocal           what the function keeps meanwhile, where it is lent as `&mut` and as `&`
 --     lends-local, local-back          lent as `&mut`, and taken back at the list that was left
@@ -105,11 +106,18 @@ module _ {M : Type 1} (𝓤 : URA M) (H : Heap 𝓤) (A : Atoms 𝓤) (W : Given
       owned ! (Array R n) (Is (Array R n)) (array-makes 𝓤 H A W R makes n) (replicate n x) _ (repeated R x u is n) $ move ! (1 ∷ 0 ∷ []) $
       use2 W (‵ (Elements R n b (replicate n x))) (apart (replicate n x) (arrayVal (replicate n u))) $ done !
 
+  pub gathers : (vals : R .Denot → List Val) → Tells R (Is R) vals → (zs : List (R .Denot)) → length zs ≡ n
+      → ent 𝓤 (sem 𝓤 H A (Elements R n b zs))
+      (ex 𝓤 (λ (v : Val). sep 𝓤 (H .at fullShare τ b 0 v) (sem 𝓤 H A (Array R n .own zs (v ∷ [])))))
+  gathers vals tl zs long =
+      qed W (‵ (Elements R n b zs) ∷ []) ∵ feqI ! ℕ (length zs) n long $ fjoin ! $
+      use1 W (some (λ (v : Val). ‵ (fat fullShare τ b 0 v) ⊛ ‵ (Array R n .own zs (v ∷ [])))) (together vals tl zs) $ done !
+
   pub falls : (vals : R .Denot → List Val) → Tells R (Is R) vals → (zs : List (R .Denot)) → length zs ≡ n
       → ent 𝓤 (sem 𝓤 H A (Elements R n b zs)) (H .room τ b 0)
   falls vals tl zs long =
-      qed W (‵ (Elements R n b zs) ∷ []) ∵ feqI ! ℕ (length zs) n long $ fjoin ! $
-      use1 W (some (λ (v : Val). ‵ (fat fullShare τ b 0 v) ⊛ ‵ (Array R n .own zs (v ∷ [])))) (together vals tl zs) $
+      qed W (‵ (Elements R n b zs) ∷ []) ∵
+      use1 W (some (λ (v : Val). ‵ (fat fullShare τ b 0 v) ⊛ ‵ (Array R n .own zs (v ∷ [])))) (gathers vals tl zs long) $
       pick ! (λ v. split ! $ use1 W (‵ (froom τ b 0)) (W .laws .at-room τ b 0 v) $ move ! (1 ∷ []) $ drop ! $ done !)
 
 -- lent to a call
