@@ -1,6 +1,7 @@
 // What the tables say of a point on a day: its holder, its state, who pays, up to which day a new link runs, and where the reading of an
 // hour stands.
 ghost use mathlib.Core.Path.{_≡_};
+ghost use mathlib.Core.Bool.{cond};
 ghost use Prim.Native.Nat.{_<_};
 ghost use Rattle.rules.specs.Sizes.{mostPoints, endOfDays, holderSize, stateSize};
 ghost use Rattle.rules.specs.World.{countingState, holderOn, stateOn, readingAt};
@@ -51,18 +52,24 @@ pub fn is_counting(state: u64) -> bool
     }
 }
 
-// Who pays for a point on a day: the holder where the state counts, else 0. Cost: logarithmic in the rows.
+// Who pays: the holder where the state counts, else 0.
+pub fn payer(state: u64, holder: u64) -> u64
+    ensures { λ r. ⌜ r ≡ cond (countingState state) holder 0 ⌝ }
+{
+    if is_counting(state) { holder } else { 0 }
+}
+
+// Who pays for a point on a day. Cost: logarithmic in the rows.
 pub fn payer_on(book: Book, holders: &[u64], states: &[u64], point: u64, day: u64) -> u64
     requires { ⌜ ValueRows holderSize (now holders) (book .holders) × ValueRows stateSize (now states) (book .states) ⌝ }
     requires { ⌜ (point < mostPoints) × (day < endOfDays) ⌝ }
     ensures { λ r. ⌜ ((o : Lists) →
         r ≡ payerOn (tablesIn book (lendHolders (was holders) (lendStates (was states) o))) point day) ⌝ }
 {
-    if is_counting(state_on(book, states, point, day)) {
-        holder_on(book, holders, point, day)
-    } else {
-        0
-    }
+    payer(
+        state_on(book, states, point, day),
+        holder_on(book, holders, point, day),
+    )
 }
 
 // Up to which day a new link runs; 0 for any other message. Cost: logarithmic in the rows.

@@ -18,17 +18,17 @@ use Rattle.ledger.proofs.RecordNumbers.{records-read}
 use Rattle.settlement.specs.Replies.{roomIn}
 use Rattle.history.specs.Runs.{lentWith, eventsFrom, answersTo, Followed}
 use Rattle.history.specs.FromOpening.{recordsIn, eventsOf, FromOpening}
-use Rattle.history.proofs.Turns.{left, events-more, answers-more, length-answers}
+use Rattle.history.proofs.Turns.{placesLeft, events-more, answers-more, length-answers}
 
 -- ---- the last message
 
 -- its answer stands behind those before it
 last-answer : (w : World) (fs : List Fields) (f : Fields) (room : ℕ) (rest : List ℕ)
     → getD (answersTo w (eventsFrom w (fs ++ (f ∷ [])) room) ++ rest) (length fs) 0
-    ≡ answer (advanceAll (begin w) (eventsFrom w fs room) .world) (lentWith f (left w fs room) .fields) (length (lentWith f (left w fs room) .lent))
+    ≡ answer (advanceAll (begin w) (eventsFrom w fs room) .world) (lentWith f (placesLeft w fs room) .fields) (length (lentWith f (placesLeft w fs room) .lent))
 unfolding begin
 last-answer w fs f room rest =
-    rw (events-more w fs f room, answers-more (begin w) (eventsFrom w fs room) (lentWith f (left w fs room)), append-assoc)
+    rw (events-more w fs f room, answers-more (begin w) (eventsFrom w fs room) (lentWith f (placesLeft w fs room)), append-assoc)
     (getD-at (answersTo w (eventsFrom w fs room)) _ rest 0 (length fs) (length-answers w fs room w))
 
 -- ---- demand 3 of the function's run
@@ -42,7 +42,7 @@ module _ (w after : World) (fs : List Fields) (count : ℕ) (lent out : List ℤ
       → (m : Measure) (s e : ℕ) → InBook (w .opening) s e → total m s e (recordsIn count out) ≡ named m (lineQuery after s e)
   unfolding lentWith
   rounds-add gs f q k z m s e b =
-      let v = lentWith f (left (opened w) gs (roomIn lent)) in
+      let v = lentWith f (placesLeft (opened w) gs (roomIn lent)) in
       let p : eventsOf w fs lent ≡ eventsOf w gs lent ++ (v ∷ []) = ap (λ x. eventsOf w x lent) q ∙ events-more (opened w) gs f (roomIn lent) in
       let n : answer (reached w (eventsOf w gs lent) .world) (v .fields) (length (v .lent)) ≡ 0
       = sym (last-answer (opened w) gs f (roomIn lent) (drop (length fs) table))

@@ -40,13 +40,13 @@ module _ (h : History) (f : Fields) (room : ℕ) where
 
 -- ---- the places that the records of a list of messages have left
 
-unfoldable pub left : World → List Fields → ℕ → ℕ
-left w [] room = room
-left w (f ∷ fs) room = left (step w f room) fs (room - length (recordsOf w f room))
+unfoldable pub placesLeft : World → List Fields → ℕ → ℕ
+placesLeft w [] room = room
+placesLeft w (f ∷ fs) room = placesLeft (step w f room) fs (room - length (recordsOf w f room))
 
 left-is : (h : History) (fs : List Fields) (room : ℕ)
-    → length (h .records) + room ≡ length (advanceAll h (eventsFrom (h .world) fs room) .records) + left (h .world) fs room
-unfolding left advanceAll eventsFrom
+    → length (h .records) + room ≡ length (advanceAll h (eventsFrom (h .world) fs room) .records) + placesLeft (h .world) fs room
+unfolding placesLeft advanceAll eventsFrom
 left-is h [] room = refl
 left-is h (f ∷ fs) room =
     let n = length (recordsOf (h .world) f room) in
@@ -55,12 +55,12 @@ left-is h (f ∷ fs) room =
     let l : length (advance h (lentWith f room) .records) ≡ length (h .records) + n = ap length (advance-records h f room) ∙ length-append (h .records) _ in
     let s : length (h .records) + room ≡ length (advance h (lentWith f room) .records) + (room - n) = omega arith in
     s ∙ subst (λ (w : World). length (advance h (lentWith f room) .records) + (room - n)
-    ≡ length (advanceAll (advance h (lentWith f room)) (eventsFrom w fs (room - n)) .records) + left w fs (room - n)) (advance-world h f room) e
+    ≡ length (advanceAll (advance h (lentWith f room)) (eventsFrom w fs (room - n)) .records) + placesLeft w fs (room - n)) (advance-world h f room) e
 
 -- ---- one event more
 
-pub events-more : (w : World) (fs : List Fields) (f : Fields) (room : ℕ) → eventsFrom w (fs ++ (f ∷ [])) room ≡ eventsFrom w fs room ++ (lentWith f (left w fs room) ∷ [])
-unfolding eventsFrom left
+pub events-more : (w : World) (fs : List Fields) (f : Fields) (room : ℕ) → eventsFrom w (fs ++ (f ∷ [])) room ≡ eventsFrom w fs room ++ (lentWith f (placesLeft w fs room) ∷ [])
+unfolding eventsFrom placesLeft
 events-more w [] f room = refl
 events-more w (g ∷ fs) f room = ap (λ (vs : List Event). lentWith g room ∷ vs) (events-more (step w g room) fs f _)
 
@@ -110,7 +110,7 @@ followed-none w inputs lent table = record { world = refl; list = numbers-none l
 
 module _ (w mid : World) (fs : List Fields) (count : ℕ) (lent list : List ℤ) (table answered : List ℕ) (g : Followed w mid fs count lent list table answered) where
   -- records and places left are the places lent
-  left-here : roomIn lent ≡ count + left w fs (roomIn lent)
+  left-here : roomIn lent ≡ count + placesLeft w fs (roomIn lent)
   unfolding begin
   left-here = let e = left-is (begin w) fs (roomIn lent) in let n = g .count-is in omega arith
 
@@ -126,7 +126,7 @@ module _ (w mid : World) (fs : List Fields) (count : ℕ) (lent list : List ℤ)
   pub answered-long : length fs ≤ length table → length answered ≡ length table
   answered-long h = ap length (g .answers) ∙ length-append (answersTo w (eventsFrom w fs (roomIn lent))) _ ∙ rw (length-answers w fs (roomIn lent) w, length-drop) (omega arith)
 
-  room-left : roomIn (drop (count * 6) list) ≡ left w fs (roomIn lent)
+  room-left : roomIn (drop (count * 6) list) ≡ placesLeft w fs (roomIn lent)
   room-left =
       let l = list-long in
       let e = left-here in
@@ -147,7 +147,7 @@ module _ (w mid : World) (fs : List Fields) (count : ℕ) (lent list : List ℤ)
     h = runFrom w fs (roomIn lent)
 
     abbrev room : ℕ
-    room = left w fs (roomIn lent)
+    room = placesLeft w fs (roomIn lent)
 
     run-more : runFrom w (fs ++ (f ∷ [])) (roomIn lent) ≡ advance h (lentWith f room)
     run-more = ap (advanceAll (begin w)) (events-more w fs f (roomIn lent)) ∙ advance-snoc (begin w) (eventsFrom w fs (roomIn lent)) (lentWith f room)

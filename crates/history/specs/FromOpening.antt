@@ -18,11 +18,11 @@ use Rattle.settlement.specs.Replies.{roomIn}
 use Rattle.history.specs.Runs.{eventsFrom}
 
 -- the first n records of a list of numbers
-abbrev pub recordsIn : ℕ → List ℤ → List Record
+abbrev pub recordsIn : (count : ℕ) → (numbers : List ℤ) → List Record
 recordsIn n numbers = listTo (recordAt numbers) n
 
 -- the messages as the claim has them, from the book that the opening of w leaves
-abbrev pub eventsOf : World → List Fields → List ℤ → List Event
+abbrev pub eventsOf : World → List Fields → (lent : List ℤ) → List Event
 eventsOf w fs lent = eventsFrom (opened w) fs (roomIn lent)
 
 pub record FromOpening (w after : World) (fs : List Fields) (count : ℕ) (lent out : List ℤ) (answered : List ℕ) : Type 0 where

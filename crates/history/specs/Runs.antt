@@ -27,7 +27,7 @@ messagesOf inputs n = listTo (fieldsAt inputs) n
 
 -- a message and a list with room for so many records. Of the list the rules read nothing but its length, so any list of that length would
 -- do.
-unfoldable pub lentWith : Fields → ℕ → Event
+unfoldable pub lentWith : Fields → (room : ℕ) → Event
 lentWith f room = record { fields = f; lent = replicate room noRecord }
 
 -- the events of a run: each message is lent the places that the records before it have left

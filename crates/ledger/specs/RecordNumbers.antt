@@ -17,7 +17,7 @@ numbersOf [] = []
 numbersOf (r ∷ rs) = recordNumbers r ++ numbersOf rs
 
 -- a lent list of numbers afterwards: the records stand at its front, and numbers past the last one written stay as lent
-unfoldable pub numbersAfter : List Record → List ℤ → List ℤ
+unfoldable pub numbersAfter : List Record → (lent : List ℤ) → List ℤ
 numbersAfter rs lent = numbersOf rs ++ drop (length rs * recordSize) lent
 
 -- the record that stands at a place of a list of numbers

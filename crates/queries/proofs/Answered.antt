@@ -36,14 +36,14 @@ place-small elements s h k =
     omega arith
 
 module _ (w : World) (s e : ℕ) where
-  answered : (r : LineAnswer) → isLine r ≡ eqb (lineNumber w s e) 0 → lineResult r ≡ lineQuery w s e → LineAnswered w s e r
-  answered r t h = record { told = t; stored = h; settled = λ w₀ vs a i b. h ∙ ap (λ x. lineQuery x s e) i ∙ demand3 w₀ a vs .fresh s e b }
+  line-told : (r : LineAnswer) → isLine r ≡ eqb (lineNumber w s e) 0 → lineResult r ≡ lineQuery w s e → LineAnswered w s e r
+  line-told r t h = record { told = t; stored = h; settled = λ w₀ vs a i b. h ∙ ap (λ x. lineQuery x s e) i ∙ demand3 w₀ a vs .fresh s e b }
 
   -- ---- refused
 
   pub line-refused : lineNumber w s e ≢ 0 → (a : Answer) → numberOf a ≡ lineNumber w s e → LineAnswered w s e (LineAnswer.Refused a)
   unfolding lineQuery
-  line-refused h a k = answered (LineAnswer.Refused a) (sym (ne-eqb _ _ h)) (rw (ne-eqb _ _ h, k))
+  line-refused h a k = line-told (LineAnswer.Refused a) (sym (ne-eqb _ _ h)) (rw (ne-eqb _ _ h, k))
 
   -- ---- answered
 
@@ -74,7 +74,7 @@ module _ (w : World) (s e : ℕ) where
     unfolding stored lineNamed
     line-named r m n l =
         let k = line-passed w s e h in
-        answered (LineAnswer.Line (r .quantity) (r .kroner) (r .billionths)) (sym (eq-eqb _ _ h))
+        line-told (LineAnswer.Line (r .quantity) (r .kroner) (r .billionths)) (sym (eq-eqb _ _ h))
         (rw (l .quantity, l .kroner, l .billionths) (sym (query-stored w (k .0) s e (k .1))))
 
 -- ---- the periods

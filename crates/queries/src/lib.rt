@@ -76,8 +76,8 @@ pub fn line(book: Book, lines: &[i64], supplier: u64, element: u64) -> LineAnswe
 
 // ---- the periods of a point and element
 
-// Everything recorded for a point and an element, as that part of the link table; the empty part where the query is refused. `asked` is what
-// its questions have answered: 2 to 5 of the book, then 7 and 8 (`validation::questions::ask_pair`). Logarithmic in the rows.
+// Everything recorded for a point and an element, as that part of the link table; the empty part where the query is refused. `asked` is
+// what its questions have answered: 2 to 5 of the book, then 7 and 8 (`validation::questions::ask_pair`). Logarithmic in the rows.
 pub fn periods(asked: Answer, book: Book, links: &[u64], point: u64, element: u64) -> &[u64]
     requires { ⌜ (numberOf asked ≡ 0 → ((o : Lists) × periodsNumber (worldIn book (lendLinks (now links) o)) point element ≡ 0)) ⌝ }
     ensures { λ r. ⌜ ((o : Lists) →

@@ -253,7 +253,7 @@ refused-17 w f room e b = cases (question17 w (b .message .body))
 -- ---- an accepted message
 
 pub record Taken (w : World) (f : Fields) (room : ℕ) (b : Body) : Type 0 where
-  pub answered : answer w f room ≡ 0
+  pub zero : answer w f room ≡ 0
   pub whole : Whole w
   pub message : Message
   pub is : understood (w .opening .suppliers) f ≡ some message
@@ -269,7 +269,7 @@ taken w f room b e = cases (eqb (answer w f room) 0)
     let y : some (c .message .body) ≡ some b = let k : bodyIn (understood (w .opening .suppliers) f) ≡ some b = rw t at e in rw (c .is) at k in
     let x : c .message .body ≡ b = cc in
     record {
-      answered = z;
+      zero = z;
       whole = c .whole;
       message = c .message;
       is = c .is;
@@ -287,7 +287,7 @@ module _ (w : World) (f : Fields) (room : ℕ) where
   written-fit none e = omega arith
   written-fit (some b) e =
       let t = taken w f room b e in
-      let k = behind w f room 0 (λ n i j l. omega arith) (t .answered) in
+      let k = behind w f room 0 (λ n i j l. omega arith) (t .zero) in
       let q : some (k .message) ≡ some (t .message) = sym (k .is) ∙ t .is in
       let m : k .message ≡ t .message = cc in
       let z : k .message .body ≡ b = ap (λ x. x .body) m ∙ t .body in

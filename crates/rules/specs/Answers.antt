@@ -41,7 +41,7 @@ lineResult (LineAnswer.Line quantity kroner billionths) =
 lineResult (LineAnswer.Refused a) = lineRefused (numberOf a)
 
 -- what holds of the answer to the query for a day without a holder
-abbrev pub DayAnswered : World → ℕ → DayAnswer → Type 0
+abbrev pub DayAnswered : World → (point : ℕ) → DayAnswer → Type 0
 DayAnswered w p (DayAnswer.Day d) = DayNamed w p d
 DayAnswered w p DayAnswer.NoDay = NoDayNamed w p
 DayAnswered w p (DayAnswer.Refused a) = numberOf a ≡ dayNumber w p

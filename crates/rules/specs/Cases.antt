@@ -96,13 +96,13 @@ cases =
 
 -- ---- a case holds where the two lists are the same
 
-unfoldable pub sameNumber : ℤ → ℤ → Bool
+unfoldable pub sameNumber : (x y : ℤ) → Bool
 sameNumber (pos m) (pos n) = eqb m n
 sameNumber (pos m) (negsuc n) = false
 sameNumber (negsuc m) (pos n) = false
 sameNumber (negsuc m) (negsuc n) = eqb m n
 
-unfoldable pub sameNumbers : List ℤ → List ℤ → Bool
+unfoldable pub sameNumbers : (xs ys : List ℤ) → Bool
 sameNumbers [] [] = true
 sameNumbers [] (y ∷ ys) = false
 sameNumbers (x ∷ xs) [] = false

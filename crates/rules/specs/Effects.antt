@@ -24,19 +24,19 @@ use Rattle.rules.specs.Questions.{question7, question8, question9, quest
 -- ---- the tables after a message
 
 -- the same tables with other links, holders, states, readings or blocks
-unfoldable pub withLinks : Tables → List ℕ → Tables
+unfoldable pub withLinks : Tables → (rows : List ℕ) → Tables
 withLinks t rows = record { links = tableOf rows; holders = t .holders; states = t .states; readings = t .readings; blocks = t .blocks }
 
-unfoldable pub withHolders : Tables → List ℕ → Tables
+unfoldable pub withHolders : Tables → (rows : List ℕ) → Tables
 withHolders t rows = record { links = t .links; holders = tableOf rows; states = t .states; readings = t .readings; blocks = t .blocks }
 
-unfoldable pub withStates : Tables → List ℕ → Tables
+unfoldable pub withStates : Tables → (rows : List ℕ) → Tables
 withStates t rows = record { links = t .links; holders = t .holders; states = tableOf rows; readings = t .readings; blocks = t .blocks }
 
-unfoldable pub withReadings : Tables → List ℕ → Tables
+unfoldable pub withReadings : Tables → (readings : List ℕ) → Tables
 withReadings t rs = record { links = t .links; holders = t .holders; states = t .states; readings = rs; blocks = t .blocks }
 
-unfoldable pub withBlocks : Tables → List ℕ → Tables
+unfoldable pub withBlocks : Tables → (blocks : List ℕ) → Tables
 withBlocks t bs = record { links = t .links; holders = t .holders; states = t .states; readings = t .readings; blocks = bs }
 
 -- "a fee covers the given day alone; other kinds run to the element's next period on that point, or to day 36,525"

@@ -62,7 +62,7 @@ left t = now (t .exit)
 
 -- ---- what a function is lent that reads them all: in a `requires`, and in an `ensures` at entry and at exit
 
-abbrev pub given : Ref ℕ → Ref ℤ → (links holders states readings blocks : Ref ℕ) → (lines sent : Ref ℤ) → Lists
+abbrev pub given : (elementData : Ref ℕ) → (prices : Ref ℤ) → (links holders states readings blocks : Ref ℕ) → (lines sent : Ref ℤ) → Lists
 given elementData prices links holders states readings blocks lines sent =
     record {
       elementData = now elementData;
@@ -76,7 +76,8 @@ given elementData prices links holders states readings blocks lines sent =
       sent = now sent;
     }
 
-abbrev pub lent : Lent ℕ → Lent ℤ → (links holders states readings blocks : Lent ℕ) → (lines sent : Lent ℤ) → Both Lists Lists
+abbrev pub lent : (elementData : Lent ℕ) → (prices : Lent ℤ) → (links holders states readings blocks : Lent ℕ) → (lines sent : Lent ℤ)
+    → Both Lists Lists
 lent elementData prices links holders states readings blocks lines sent =
     record {
       entry = given (elementData .entry) (prices .entry) (links .entry) (holders .entry) (states .entry) (readings .entry)
@@ -87,7 +88,7 @@ lent elementData prices links holders states readings blocks lines sent =
 
 -- ---- what a function is lent that reads some tables: those, and whatever else there is
 
-abbrev pub lendElements : List ℕ → List ℤ → Lists → Lists
+abbrev pub lendElements : (elementData : List ℕ) → (prices : List ℤ) → Lists → Lists
 lendElements ds ps o =
     record {
       elementData = ds;
@@ -101,7 +102,7 @@ lendElements ds ps o =
       sent = o .sent;
     }
 
-abbrev pub lendData : List ℕ → Lists → Lists
+abbrev pub lendData : (elementData : List ℕ) → Lists → Lists
 lendData ds o = lendElements ds (o .prices) o
 
 abbrev pub lendRows : (links holders states : List ℕ) → Lists → Lists
@@ -118,16 +119,16 @@ lendRows links holders states o =
       sent = o .sent;
     }
 
-abbrev pub lendLinks : List ℕ → Lists → Lists
+abbrev pub lendLinks : (links : List ℕ) → Lists → Lists
 lendLinks links o = lendRows links (o .holders) (o .states) o
 
-abbrev pub lendHolders : List ℕ → Lists → Lists
+abbrev pub lendHolders : (holders : List ℕ) → Lists → Lists
 lendHolders holders o = lendRows (o .links) holders (o .states) o
 
-abbrev pub lendStates : List ℕ → Lists → Lists
+abbrev pub lendStates : (states : List ℕ) → Lists → Lists
 lendStates states o = lendRows (o .links) (o .holders) states o
 
-abbrev pub lendReadings : List ℕ → Lists → Lists
+abbrev pub lendReadings : (readings : List ℕ) → Lists → Lists
 lendReadings readings o =
     record {
       elementData = o .elementData;
@@ -141,7 +142,7 @@ lendReadings readings o =
       sent = o .sent;
     }
 
-abbrev pub lendBlocks : List ℕ → Lists → Lists
+abbrev pub lendBlocks : (blocks : List ℕ) → Lists → Lists
 lendBlocks blocks o =
     record {
       elementData = o .elementData;
@@ -169,11 +170,11 @@ lendMoney lines sent o =
       sent = sent;
     }
 
-abbrev pub lendLines : List ℤ → Lists → Lists
+abbrev pub lendLines : (lines : List ℤ) → Lists → Lists
 lendLines lines o = lendMoney lines (o .sent) o
 
 -- what charges are computed from: elements and prices, links, holders and states, readings
-abbrev pub lendCharging : List ℕ → List ℤ → (links holders states readings : List ℕ) → Lists → Lists
+abbrev pub lendCharging : (elementData : List ℕ) → (prices : List ℤ) → (links holders states readings : List ℕ) → Lists → Lists
 lendCharging ds ps links holders states readings o =
     lendElements ds ps (lendRows links holders states (lendReadings readings o))
 

@@ -12,7 +12,7 @@ use Rattle.rules.specs.Whole.{Limits, TablesRight}
 use Rattle.rules.specs.Sizes.{endOfDays, hourPlaces, mostEnergy, mostQuantity}
 
 -- a body's fields, as question 6 leaves them
-abbrev pub Ranged : ℕ → Body → Type 0
+abbrev pub Ranged : (suppliers : ℕ) → Body → Type 0
 Ranged suppliers (Link p e d q) = (d < endOfDays) × (1 ≤ q) × (q ≤ mostQuantity)
 Ranged suppliers (Stop p e d) = d < endOfDays
 Ranged suppliers (Quantity p e d q) = (d < endOfDays) × (1 ≤ q) × (q ≤ mostQuantity)

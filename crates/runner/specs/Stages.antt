@@ -29,7 +29,7 @@ phaseOf (messages w number) = Phase.Messages
 phaseOf over = Phase.Start
 
 -- what is still printed
-unfoldable pub printed : Stage → List ℕ → List ℕ
+unfoldable pub printed : Stage → (rest : List ℕ) → List ℕ
 printed start bytes = settled bytes
 printed (elements h values) bytes = elementsFrom (suc (length bytes)) bytes h values
 printed (messages w number) bytes = messagesFrom (suc (length bytes)) bytes w number
@@ -42,11 +42,11 @@ pub record Move : Type 0 where
   pub next : ℕ
 
 -- nothing is printed, and the run goes on from a place
-abbrev pub quiet : Stage → ℕ → Move
+abbrev pub quiet : Stage → (next : ℕ) → Move
 quiet stage next = record { text = []; stage = stage; next = next }
 
 -- "Refusals 1 to 4 print `refused 0 N` and end the run"
-unfoldable pub broken : ℕ → ℕ → Move
+unfoldable pub broken : (at question : ℕ) → Move
 broken at question = record { text = endedBy question; stage = over; next = at }
 
 -- the book's line
@@ -54,19 +54,19 @@ unfoldable pub lineOf : Opening → List ℕ
 lineOf o = bookLine (o .year) (o .month) (monthDays o) (monthFirst o)
 
 -- behind the opening: the messages, or the end of the input
-abbrev pub openedTo : Bool → World → Stage
+abbrev pub openedTo : (last : Bool) → World → Stage
 openedTo false w = messages w 1
 openedTo true w = over
 
 -- "The book opens, printing its line": the run goes on from the same place with a stage that the opened world gives
-unfoldable pub opening : ℕ → Opening → (World → Stage) → Move
+unfoldable pub opening : (at : ℕ) → Opening → (more : World → Stage) → Move
 opening at o more =
     cond (eqb (settleAnswer o) 0)
     (record { text = lineOf o; stage = more (opened (lent o)); next = at })
     (broken at (settleAnswer o))
 
 -- a field that was found from a place of the bytes on; where the bytes in hand end within it, nothing yet
-unfoldable pub moveOn : (at : ℕ) → Stage → Found → List ℕ → Move
+unfoldable pub moveOn : (at : ℕ) → Stage → Found → (bytes : List ℕ) → Move
 moveOn at start (Month year month points suppliers next) bytes =
     quiet (elements (record { year = year; month = month; points = points; suppliers = suppliers }) []) next
 moveOn at start (Element from size next) bytes = broken at 1

@@ -25,7 +25,7 @@ abbrev pub lastNumber : ℕ
 lastNumber = 18446744073709551615
 
 -- the run goes on from a place
-abbrev pub advancedTo : Phase → Bool → Book → (number next written : ℕ) → Advanced
+abbrev pub advancedTo : Phase → (over : Bool) → Book → (number next written : ℕ) → Advanced
 advancedTo phase ended b number next written =
     record {
       progress = record { phase = phase; over = ended; book = b; number = number };

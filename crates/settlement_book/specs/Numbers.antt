@@ -1,5 +1,6 @@
 -- A book, a message and the answers as the numbers that the exported functions take and give.
-use Prim.Native.Nat.{ℕ, _<_}
+use Prim.Native.Nat.{ℕ, _≤_, _<_}
+use mathlib.Core.Path.{_≡_}
 use mathlib.Core.List.{List, [], _∷_, _++_}
 use lib.IntN.{ℤ, pos}
 use lib.ListN.{length, getD, drop}
@@ -9,7 +10,7 @@ use Rattle.rules.specs.declared.LineAnswer.{LineAnswer}
 use Rattle.rules.specs.declared.DayAnswer.{DayAnswer}
 use Rattle.rules.specs.Queries.{LineResult}
 use Rattle.rules.specs.Answers.{numberOf}
-use Rattle.rules.specs.Sizes.{billion, endOfDays}
+use Rattle.rules.specs.Sizes.{billion, endOfDays, lineSize}
 use Rattle.recording.specs.Opened.{freshBook}
 
 -- ---- a book and a message: nine numbers each, in the order of their fields
@@ -20,7 +21,7 @@ bookSize = 9
 abbrev pub fieldsSize : ℕ
 fieldsSize = 9
 
-abbrev pub bookIn : List ℕ → Book
+abbrev pub bookIn : (numbers : List ℕ) → Book
 bookIn ns =
     record {
       year = getD ns 0 0;
@@ -38,10 +39,10 @@ abbrev pub numbersIn : Book → List ℕ
 numbersIn b = b .year ∷ b .month ∷ b .points ∷ b .suppliers ∷ b .elements ∷ b .periods ∷ b .holders ∷ b .states ∷ b .round ∷ []
 
 -- the book that an opening gives: the first five numbers are taken
-abbrev pub freshIn : List ℕ → Book
+abbrev pub freshIn : (numbers : List ℕ) → Book
 freshIn ns = freshBook (getD ns 0 0) (getD ns 1 0) (getD ns 2 0) (getD ns 3 0) (getD ns 4 0)
 
-abbrev pub fieldsIn : List ℕ → Fields
+abbrev pub fieldsIn : (numbers : List ℕ) → Fields
 fieldsIn ns =
     record {
       kind = getD ns 0 0;
@@ -55,13 +56,27 @@ fieldsIn ns =
       value = getD ns 8 0;
     }
 
+-- the caller's own numbers have their lengths: of a book, of a book and a message, of a book and a line, and of a book and rows
+abbrev pub SizedBook : (book : List ℕ) → Type 0
+SizedBook book = length book ≡ bookSize
+
+abbrev pub SizedMessage : (book fields : List ℕ) → Type 0
+SizedMessage book fields = SizedBook book × (length fields ≡ fieldsSize)
+
+abbrev pub SizedLine : (book : List ℕ) → (line : List ℤ) → Type 0
+SizedLine book line = SizedBook book × (length line ≡ lineSize)
+
+-- every period of a point and element has a place
+abbrev pub SizedRows : (book links rows : List ℕ) → Type 0
+SizedRows book links rows = SizedBook book × (length links ≤ length rows)
+
 -- ---- a line: quantity, kroner and billionths
 
 unfoldable pub lineNumbers : LineResult → List ℤ
 lineNumbers r = r .quantity ∷ r .kroner ∷ pos (r .billionths) ∷ []
 
 -- a lent line afterwards: a refusal leaves it
-abbrev pub lineAfter : LineAnswer → List ℤ → List ℤ
+abbrev pub lineAfter : LineAnswer → (lent : List ℤ) → List ℤ
 lineAfter (LineAnswer.Line quantity kroner billionths) lent = quantity ∷ kroner ∷ pos billionths ∷ []
 lineAfter (LineAnswer.Refused a) lent = lent
 
@@ -72,7 +87,7 @@ InKrone (LineAnswer.Refused a) = 0 < billion
 
 -- ---- rows at the front of a lent list; those past the last one written stay as lent
 
-abbrev pub frontOf : List ℕ → List ℕ → List ℕ
+abbrev pub frontOf : (rows lent : List ℕ) → List ℕ
 frontOf rows lent = rows ++ drop (length rows) lent
 
 -- ---- a day: 36,525, which stands behind the last day, for none

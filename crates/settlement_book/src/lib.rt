@@ -1,6 +1,7 @@
 // Every form for any book and any tables, opening, message and queries: questions 2 to 5, then the form for a book that is well formed; and
 // the functions that the static library exports, over numbers and slices. A book is nine numbers in the order of `rules::Book`, a message
-// nine in the order of `rules::Fields`; every table is lent.
+// nine in the order of `rules::Fields`; every table is lent. Where the numbers of a book, a message or a line are too many or too few, the
+// answer is question 3, before anything else is asked.
 ghost use mathlib.Core.Path.{_≡_};
 ghost use lib.ListN.{length};
 ghost use Prim.Native.Nat.{_≤_};
@@ -9,11 +10,14 @@ ghost use Rattle.rules.specs.Whole.{Whole};
 ghost use Rattle.rules.specs.Lent.{Lists, worldIn, given, lent, lendLinks, lendRows, lendLines, left, was};
 ghost use Rattle.settlement.specs.Replies.{Replied};
 ghost use Rattle.settlement_book.specs.Numbers.{bookSize, fieldsSize, bookIn, fieldsIn, freshIn};
+ghost use Rattle.settlement_book.specs.Numbers.{SizedBook, SizedMessage, SizedLine, SizedRows};
 ghost use Rattle.settlement_book.specs.Promises.{OpensIn, RepliesIn, LineIn, PeriodsIn, DayIn};
 
 pub mod numbers;
 pub mod questions;
 
+use crate::numbers::BOOK_SIZE;
+use crate::numbers::FIELDS_SIZE;
 use crate::numbers::book_of;
 use crate::numbers::copy_front;
 use crate::numbers::fields_of;
@@ -25,8 +29,10 @@ use crate::questions::check_book;
 use crate::questions::check_opening;
 use recording::opening::clear_tables;
 use recording::opening::fresh_book;
+use rules::Answer;
 use rules::Book;
 use rules::Fields;
+use rules::LINE_SIZE;
 use settlement::Reply;
 use settlement::refused;
 use validation::questions::ask_pair;
@@ -49,13 +55,17 @@ pub extern "C" fn settlement_book_open(
     lines: &mut [i64],
     sent: &mut [i64],
 ) -> u64
-    requires { ⌜ length (now book) ≡ bookSize ⌝ }
     ensures opens { λ r. ⌜ (let t = lent element_data prices links holders states readings blocks lines sent in
         let fresh = freshIn (was book) in
-        OpensIn (worldIn fresh (t .entry)) (worldIn fresh (t .exit)) (was book) (left book) r) ⌝ }
+        SizedBook (was book) → OpensIn (worldIn fresh (t .entry)) (worldIn fresh (t .exit)) (was book) (left book) r) ⌝ }
+    ensures otherwise { λ r. ⌜ (let t = lent element_data prices links holders states readings blocks lines sent in
+        (SizedBook (was book) → ⊥) → (r ≡ 3) × (left book ≡ was book) × (t .exit ≡ t .entry)) ⌝ }
     ensures whole { λ r. ⌜ (let t = lent element_data prices links holders states readings blocks lines sent in
         r ≡ 0 → Whole (worldIn (bookIn (left book)) (t .exit))) ⌝ }
 {
+    if book.len() != BOOK_SIZE {
+        return number(Answer::WrongLength);
+    }
     let named = book_of(book);
     let fresh = fresh_book(
         named.year,
@@ -153,11 +163,22 @@ pub extern "C" fn settlement_book_message(
     fields: &[u64],
     count: &mut u64,
 ) -> u64
-    requires { ⌜ (length (now book) ≡ bookSize) × (length (now fields) ≡ fieldsSize) ⌝ }
-    ensures { λ r. ⌜ (let t = lent element_data prices links holders states readings blocks lines sent in
-        RepliesIn (worldIn (bookIn (was book)) (t .entry)) (worldIn (bookIn (left book)) (t .exit)) (fieldsIn (was fields))
+    ensures replies { λ r. ⌜ (let t = lent element_data prices links holders states readings blocks lines sent in
+        SizedMessage (was book) (was fields)
+        → RepliesIn (worldIn (bookIn (was book)) (t .entry)) (worldIn (bookIn (left book)) (t .exit)) (fieldsIn (was fields))
         r (left count) (was records) (left records)) ⌝ }
+    ensures otherwise { λ r. ⌜ (let t = lent element_data prices links holders states readings blocks lines sent in
+        (SizedMessage (was book) (was fields) → ⊥)
+        → (r ≡ 3) × (left book ≡ was book) × (t .exit ≡ t .entry) × (left records ≡ was records) × (left count ≡ 0)) ⌝ }
 {
+    if book.len() != BOOK_SIZE {
+        *count = 0;
+        return number(Answer::WrongLength);
+    }
+    if fields.len() != FIELDS_SIZE {
+        *count = 0;
+        return number(Answer::WrongLength);
+    }
     let reply = message(
         book_of(book),
         element_data,
@@ -262,10 +283,16 @@ pub extern "C" fn settlement_book_line(
     element: u64,
     line: &mut [i64],
 ) -> u64
-    requires { ⌜ (length (now book) ≡ bookSize) × (length (now line) ≡ lineSize) ⌝ }
-    ensures { λ r. ⌜ (let t = lent element_data prices links holders states readings blocks lines sent in
-        LineIn (worldIn (bookIn (was book)) (t .entry)) supplier element r (was line) (left line)) ⌝ }
+    ensures answers { λ r. ⌜ (let t = lent element_data prices links holders states readings blocks lines sent in
+        SizedLine (was book) (was line) → LineIn (worldIn (bookIn (was book)) (t .entry)) supplier element r (was line) (left line)) ⌝ }
+    ensures otherwise { λ r. ⌜ ((SizedLine (was book) (was line) → ⊥) → (r ≡ 3) × (left line ≡ was line)) ⌝ }
 {
+    if book.len() != BOOK_SIZE {
+        return number(Answer::WrongLength);
+    }
+    if line.len() != LINE_SIZE {
+        return number(Answer::WrongLength);
+    }
     let asked = check_book(
         book_of(book),
         element_data,
@@ -330,10 +357,20 @@ pub extern "C" fn settlement_book_periods(
     rows: &mut [u64],
     count: &mut u64,
 ) -> u64
-    requires { ⌜ (length (now book) ≡ bookSize) × (length (now links) ≤ length (now rows)) ⌝ }
-    ensures { λ r. ⌜ (let t = lent element_data prices links holders states readings blocks lines sent in
-        PeriodsIn (worldIn (bookIn (was book)) (t .entry)) point element r (left count) (was rows) (left rows)) ⌝ }
+    ensures answers { λ r. ⌜ (let t = lent element_data prices links holders states readings blocks lines sent in
+        SizedRows (was book) (was links) (was rows)
+        → PeriodsIn (worldIn (bookIn (was book)) (t .entry)) point element r (left count) (was rows) (left rows)) ⌝ }
+    ensures otherwise { λ r. ⌜ ((SizedRows (was book) (was links) (was rows) → ⊥)
+        → (r ≡ 3) × (left count ≡ 0) × (left rows ≡ was rows)) ⌝ }
 {
+    if book.len() != BOOK_SIZE {
+        *count = 0;
+        return number(Answer::WrongLength);
+    }
+    if rows.len() < links.len() {
+        *count = 0;
+        return number(Answer::WrongLength);
+    }
     let asked = check_book(
         book_of(book),
         element_data,
@@ -395,10 +432,13 @@ pub extern "C" fn settlement_book_day_without_holder(
     point: u64,
     day: &mut u64,
 ) -> u64
-    requires { ⌜ length (now book) ≡ bookSize ⌝ }
-    ensures { λ r. ⌜ (let t = lent element_data prices links holders states readings blocks lines sent in
-        DayIn (worldIn (bookIn (was book)) (t .entry)) point r (was day) (left day)) ⌝ }
+    ensures answers { λ r. ⌜ (let t = lent element_data prices links holders states readings blocks lines sent in
+        SizedBook (was book) → DayIn (worldIn (bookIn (was book)) (t .entry)) point r (was day) (left day)) ⌝ }
+    ensures otherwise { λ r. ⌜ ((SizedBook (was book) → ⊥) → (r ≡ 3) × (left day ≡ was day)) ⌝ }
 {
+    if book.len() != BOOK_SIZE {
+        return number(Answer::WrongLength);
+    }
     let asked = check_book(
         book_of(book),
         element_data,

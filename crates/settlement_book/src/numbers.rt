@@ -16,7 +16,9 @@ use validation::questions::number;
 
 // ---- a book and a message
 
-// The numbers of a message.
+// The numbers of a book, and of a message.
+pub const BOOK_SIZE: usize = 9;
+
 pub const FIELDS_SIZE: usize = 9;
 
 pub fn book_of(numbers: &[u64]) -> Book

@@ -1,6 +1,9 @@
 -- The state decides between the holder and nobody, as in the definition.
-use mathlib.Core.Path.{sym, _∙_}
+use mathlib.Core.Path.{_≡_, ap₂, _∙_}
+use mathlib.Core.Bool.{cond}
+use Prim.Native.Nat.{ℕ}
 use Rattle.rules.specs.Lent.{Lists, lendHolders, lendStates}
+use Rattle.rules.specs.World.{countingState}
 use Rattle.facts.specs.Payers.{payerOn}
 use borrow.Author.Needs.{needs}
 use Rattle.facts.proofs.payer_on.Statement.{statement}
@@ -9,11 +12,11 @@ use Rattle.facts.proofs.payer_on.Tie as tie
 state-on-requires : tie.Need-state-on-requires
 state-on-requires c κs = search needs
 
-is-counting-requires : tie.Need-is-counting-requires
-is-counting-requires c κs = search needs
-
 holder-on-requires : tie.Need-holder-on-requires
 holder-on-requires c κs = search needs
+
+payer-requires : tie.Need-payer-requires
+payer-requires c κs = search needs
 
 -- what is lent, and any other tables
 abbrev lent : tie.Start → Lists → Lists
@@ -24,17 +27,9 @@ unfolding payerOn
 returns c o =
     let start : tie.Start = search in
     let state : tie.After-state-on = search in
-    let counting : tie.After-is-counting = search in
-    rw (← state .state-on .ensures (lent start o), sym (counting .is-counting .ensures) ∙ c .before .if1 .taken) (c .holder-on .ensures (lent start o))
-
-returns-2 : tie.Need-returns-2
-unfolding payerOn
-returns-2 c o =
-    let start : tie.Start = search in
-    let state : tie.After-state-on = search in
-    rw (← state .state-on .ensures (lent start o), sym (c .before .is-counting .ensures) ∙ c .if1 .left)
+    let holder : tie.After-holder-on = search in
+    c .payer .ensures
+    ∙ ap₂ (λ (s h : ℕ). cond (countingState s) h 0) (state .state-on .ensures (lent start o)) (holder .holder-on .ensures (lent start o))
 
 pub payer-on-spec : {M : Type 1} → statement M
-payer-on-spec =
-    tie.close
-    (tie.spec state-on-requires is-counting-requires holder-on-requires returns returns-2)
+payer-on-spec = tie.close (tie.spec state-on-requires holder-on-requires payer-requires returns)

@@ -1,4 +1,5 @@
--- The reply, said in numbers: the book that it names is put in the place of the lent one.
+-- The lengths of book and message; then the reply, said in numbers: the book that it names is put in the place of the lent one.
+use mathlib.Core.Path.{refl}
 use Rattle.rules.specs.Lent.{Lists, given}
 use Rattle.settlement_book.proofs.Answers.{replies-in}
 use borrow.Author.Needs.{needs}
@@ -24,6 +25,28 @@ fields-before c = search
 abbrev replied-of : tie.After-put-book → tie.After-message
 replied-of c = search
 
+abbrev book-sized : tie.After-message → tie.Else1
+book-sized c = search
+
+abbrev fields-sized : tie.After-message → tie.Else2
+fields-sized c = search
+
+number-requires : tie.Need-number-requires
+number-requires c κs = search needs
+
+returns : tie.Need-returns
+returns c =
+    let short : tie.Then1 = search in
+    (λ sized. absurd (short .if1 .taken (sized .0)), λ _. (c .number .ensures, refl, refl, refl, refl))
+
+number-requires-2 : tie.Need-number-requires-2
+number-requires-2 c κs = search needs
+
+returns-2 : tie.Need-returns-2
+returns-2 c =
+    let short : tie.Then2 = search in
+    (λ sized. absurd (short .if2 .taken (sized .1)), λ _. (c .number2 .ensures, refl, refl, refl, refl))
+
 book-of-requires : tie.Need-book-of-requires
 book-of-requires c κs = search needs
 
@@ -36,10 +59,10 @@ message-requires c κs = search needs
 put-book-requires : tie.Need-put-book-requires
 put-book-requires c κs =
     let replied : tie.After-message = search in
-    start-of (named-of replied) .pre .0
+    book-sized replied .if1 .left
 
-number-requires : tie.Need-number-requires
-number-requires c κs = search needs
+number-requires-3 : tie.Need-number-requires-3
+number-requires-3 c κs = search needs
 
 same-length : tie.Need-same-length
 same-length c = search needs
@@ -68,24 +91,30 @@ same-length-8 c = search needs
 same-length-9 : tie.Need-same-length-9
 same-length-9 c = search needs
 
-returns : tie.Need-returns
-returns c =
+returns-3 : tie.Need-returns-3
+returns-3 c =
     let put : tie.After-put-book = search in
-    let numbered : tie.After-number = search in
+    let numbered : tie.After-number3 = search in
     let replied = replied-of put in
-    let start = start-of (named-of replied) in
-    replies-in (lent start) _ (replied .message .result) (start .args .records .now) _ _ _ (named-of replied .book-of .ensures)
-    (fields-before replied .fields-of .ensures) (replied .message .ensures) (put .put-book .ensures) (numbered .number .ensures)
+    let start = start-of (named-of replied) in (
+      λ _. replies-in (lent start) _ (replied .message .result) (start .args .records .now) _ _ _ (named-of replied .book-of .ensures)
+          (fields-before replied .fields-of .ensures) (replied .message .ensures) (put .put-book .ensures) (numbered .number3 .ensures),
+      λ short. absurd (short (book-sized replied .if1 .left, fields-sized replied .if2 .left)),
+    )
 
 pub settlement-book-message-spec : {M : Type 1} → statement M
 settlement-book-message-spec =
     tie.close
     (tie.spec
+    number-requires
+    returns
+    number-requires-2
+    returns-2
     book-of-requires
     fields-of-requires
     message-requires
     put-book-requires
-    number-requires
+    number-requires-3
     same-length
     same-length-2
     same-length-3
@@ -95,4 +124,4 @@ settlement-book-message-spec =
     same-length-7
     same-length-8
     same-length-9
-    returns)
+    returns-3)

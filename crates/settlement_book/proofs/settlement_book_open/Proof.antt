@@ -1,4 +1,4 @@
--- Where questions 2 to 4 pass, cleared tables are those of the opened book, whose numbers are put in the place of the lent ones.
+-- The length of the book; then, where questions 2 to 4 pass, cleared tables are those of the opened book, whose numbers are put in the place of the lent ones.
 use mathlib.Core.Path.{_≡_, refl, sym, ap, _∙_}
 use lib.ListN.{getD}
 use Rattle.rules.specs.declared.Book.{Book}
@@ -8,6 +8,7 @@ use Rattle.rules.specs.Lent.{Lists, worldIn, given}
 use Rattle.recording.specs.Opened.{freshBook}
 use Rattle.settlement_book.specs.Numbers.{numbersIn, freshIn}
 use Rattle.settlement_book.proofs.Answers.{opened-whole, opens-world, opens-in, put-whole, stays-in}
+use native.Mathlib.Omega.{arith}
 use borrow.Author.Needs.{needs}
 use Rattle.settlement_book.proofs.settlement_book_open.Statement.{statement}
 use Rattle.settlement_book.proofs.settlement_book_open.Tie as tie
@@ -21,14 +22,14 @@ lent s =
 abbrev world : tie.Start → World
 world s = worldIn (freshIn (s .args .book .now)) (lent s)
 
-abbrev start-of : tie.After-number → tie.Start
+abbrev start-of : tie.After-number2 → tie.Start
 start-of c = search
 
-abbrev fresh-of : tie.After-number → tie.After-fresh-book
+abbrev fresh-of : tie.After-number2 → tie.After-fresh-book
 fresh-of c = search
 
 -- the book that is asked is the fresh one of the lent numbers
-fresh-is : (c : tie.After-number) → fresh-of c .fresh-book .result ≡ freshIn (start-of c .args .book .now)
+fresh-is : (c : tie.After-number2) → fresh-of c .fresh-book .result ≡ freshIn (start-of c .args .book .now)
 fresh-is c =
     let made = fresh-of c in
     let named : tie.After-book-of = search in
@@ -36,17 +37,29 @@ fresh-is c =
     ∙ ap (λ (b : Book). freshBook (b .year) (b .month) (b .points) (b .suppliers) (b .elements)) (named .book-of .ensures)
 
 -- what questions 2 to 4 have said
-number-is : (c : tie.After-number) → c .number .result ≡ openingAnswer (world (start-of c))
+number-is : (c : tie.After-number2) → c .number2 .result ≡ openingAnswer (world (start-of c))
 number-is c =
     let asked : tie.After-check-opening = search in
-    c .number .ensures ∙ asked .check-opening .ensures (lent (start-of c)) refl
+    c .number2 .ensures ∙ asked .check-opening .ensures (lent (start-of c)) refl
     ∙ ap (λ (b : Book). openingAnswer (worldIn b (lent (start-of c)))) (fresh-is c)
 
-abbrev number-of : tie.After-clear-tables → tie.After-number
+abbrev number-of : tie.After-clear-tables → tie.After-number2
 number-of c = search
 
-abbrev passed-of : tie.After-clear-tables → tie.Else1
+abbrev passed-of : tie.After-clear-tables → tie.Else2
 passed-of c = search
+
+abbrev sized-of : tie.After-clear-tables → tie.Else1
+sized-of c = search
+
+number-requires : tie.Need-number-requires
+number-requires c κs = search needs
+
+returns : tie.Need-returns
+returns c =
+    let short : tie.Then1 = search in
+    let n = c .number .ensures in
+    (λ sized. absurd (short .if1 .taken sized), (λ _. (n, refl, refl), λ z. absurd (omega arith)))
 
 book-of-requires : tie.Need-book-of-requires
 book-of-requires c κs = search needs
@@ -59,26 +72,27 @@ check-opening-requires c κs =
     let start : tie.Start = search in
     (lent start, refl)
 
-number-requires : tie.Need-number-requires
-number-requires c κs = search needs
+number-requires-2 : tie.Need-number-requires-2
+number-requires-2 c κs = search needs
 
 same-length : tie.Need-same-length
 same-length c = search needs
 
-returns : tie.Need-returns
-returns c =
-    let numbered : tie.After-number = search in
+returns-2 : tie.Need-returns-2
+returns-2 c =
+    let numbered : tie.After-number2 = search in
     let start = start-of numbered in
     let n = number-is numbered in
-    (stays-in (world start) (world start) _ (start .args .book .now) n (c .if1 .taken) refl, λ z. absurd (c .if1 .taken z))
+    let sized : tie.Else1 = search in (
+      λ _. stays-in (world start) (world start) _ (start .args .book .now) n (c .if2 .taken) refl,
+      (λ short. absurd (short (sized .if1 .left)), λ z. absurd (c .if2 .taken z)),
+    )
 
 clear-tables-requires : tie.Need-clear-tables-requires
 clear-tables-requires c κs = search needs
 
 put-book-requires : tie.Need-put-book-requires
-put-book-requires c κs =
-    let numbered : tie.After-number = search in
-    start-of numbered .pre
+put-book-requires c κs = let sized : tie.Else1 = search in sized .if1 .left
 
 same-length-2 : tie.Need-same-length-2
 same-length-2 c = search needs
@@ -104,31 +118,37 @@ same-length-8 c = search needs
 same-length-9 : tie.Need-same-length-9
 same-length-9 c = search needs
 
-returns-2 : tie.Need-returns-2
-returns-2 c =
+returns-3 : tie.Need-returns-3
+returns-3 c =
     let cleared : tie.After-clear-tables = search in
     let put : tie.After-put-book = search in
     let numbered = number-of cleared in
     let start = start-of numbered in
     let b = start .args .book .now in
-    let h = sym (number-is numbered) ∙ passed-of cleared .if1 .left in
+    let h = sym (number-is numbered) ∙ passed-of cleared .if2 .left in
     let e = cleared .clear-tables .ensures (lent start) in
-    let n = put .put-book .ensures ∙ ap numbersIn (fresh-is numbered) in (
-      opens-in (getD b 0 0) (getD b 1 0) (getD b 2 0) (getD b 3 0) (getD b 4 0) (lent start) _ h e b _ n,
-      λ z. put-whole (freshIn b) _ _ n
-          (opened-whole (world start) _ (opens-world (getD b 0 0) (getD b 1 0) (getD b 2 0) (getD b 3 0) (getD b 4 0) (lent start) _ h e) h),
+    let n = put .put-book .ensures ∙ ap numbersIn (fresh-is numbered) in
+    let sized = sized-of cleared in (
+      λ _. opens-in (getD b 0 0) (getD b 1 0) (getD b 2 0) (getD b 3 0) (getD b 4 0) (lent start) _ h e b _ n,
+      (
+        λ short. absurd (short (sized .if1 .left)),
+        λ z. put-whole (freshIn b) _ _ n
+            (opened-whole (world start) _ (opens-world (getD b 0 0) (getD b 1 0) (getD b 2 0) (getD b 3 0) (getD b 4 0) (lent start) _ h e) h),
+      ),
     )
 
 pub settlement-book-open-spec : {M : Type 1} → statement M
 settlement-book-open-spec =
     tie.close
     (tie.spec
+    number-requires
+    returns
     book-of-requires
     fresh-book-requires
     check-opening-requires
-    number-requires
+    number-requires-2
     same-length
-    returns
+    returns-2
     clear-tables-requires
     put-book-requires
     same-length-2
@@ -139,4 +159,4 @@ settlement-book-open-spec =
     same-length-7
     same-length-8
     same-length-9
-    returns-2)
+    returns-3)

@@ -1,13 +1,15 @@
--- The questions of the book, then the query of a well-formed one.
-use mathlib.Core.Path.{_≡_, sym, ap, _∙_}
+-- The lengths of book and rows, the questions of the book, then the query of a well-formed one.
+use mathlib.Core.Path.{_≡_, refl, sym, ap, _∙_}
 use Rattle.rules.specs.declared.Book.{Book}
 use Rattle.rules.specs.World.{World}
 use Rattle.rules.specs.Answers.{numberOf}
 use Rattle.rules.specs.Effects.{askBook}
 use Rattle.rules.specs.Lent.{Lists, worldIn, given}
+use Rattle.rules.specs.Whole.{Whole}
 use Rattle.rules.proofs.BookLaws.{book-whole}
 use Rattle.settlement_book.specs.Numbers.{bookIn}
 use Rattle.settlement_book.proofs.Answers.{periods-no-book}
+use native.Mathlib.Omega.{arith}
 use borrow.Author.Needs.{needs}
 use Rattle.settlement_book.proofs.settlement_book_periods.Statement.{statement}
 use Rattle.settlement_book.proofs.settlement_book_periods.Tie as tie
@@ -30,56 +32,90 @@ asked c =
     let named : tie.After-book-of = search in
     c .check-book .ensures ∙ ap (λ (b : Book). askBook (worldIn b (lent (start-of c))) 0) (named .book-of .ensures)
 
+abbrev checked-of : tie.Then3 → tie.After-check-book
+checked-of c = search
+
+-- where they pass, the book is well formed
+whole : (c : tie.Then3) → Whole (world (start-of (checked-of c)))
+whole c =
+    let numbered : tie.After-number3 = search in
+    book-whole _ 0 (sym (asked (checked-of c)) ∙ sym (numbered .number3 .ensures) ∙ c .if3 .taken) .0
+
+number-requires : tie.Need-number-requires
+number-requires c κs = search needs
+
+returns : tie.Need-returns
+returns c =
+    let short : tie.Then1 = search in
+    (λ sized. absurd (short .if1 .taken (sized .0)), λ _. (c .number .ensures, refl, refl))
+
+number-requires-2 : tie.Need-number-requires-2
+number-requires-2 c κs = search needs
+
+returns-2 : tie.Need-returns-2
+returns-2 c =
+    let short : tie.Then2 = search in
+    let few = short .if2 .taken in
+    (λ sized. let room = sized .1 in absurd (omega arith), λ _. (c .number2 .ensures, refl, refl))
+
 book-of-requires : tie.Need-book-of-requires
 book-of-requires c κs = search needs
 
 check-book-requires : tie.Need-check-book-requires
 check-book-requires c κs = search needs
 
-number-requires : tie.Need-number-requires
-number-requires c κs = search needs
+number-requires-3 : tie.Need-number-requires-3
+number-requires-3 c κs = search needs
 
 settlement-book-periods-within-requires : tie.Need-settlement-book-periods-within-requires
 settlement-book-periods-within-requires c κs =
-    let checked : tie.After-check-book = search in
-    let numbered : tie.After-number = search in
-    let yes : tie.Then1 = search in
-    let start = start-of checked in
-    (start .pre, (lent start, book-whole (world start) 0 (sym (asked checked) ∙ sym (numbered .number .ensures) ∙ yes .if1 .taken) .0))
+    let yes : tie.Then3 = search in
+    let book : tie.Else1 = search in
+    let rows : tie.Else2 = search in
+    ((book .if1 .left, rows .if2 .left), (lent (start-of (checked-of yes)), whole yes))
 
-number-requires-2 : tie.Need-number-requires-2
-number-requires-2 c κs = search needs
+number-requires-4 : tie.Need-number-requires-4
+number-requires-4 c κs = search needs
 
 same-length : tie.Need-same-length
 same-length c = search needs
 
-returns : tie.Need-returns
-returns c =
-    let checked : tie.After-check-book = search in
-    let numbered : tie.After-number = search in
-    let yes : tie.Then1 = search in
-    let done : tie.After-settlement-book-periods-within = search in
-    let start = start-of checked in
-    done .settlement-book-periods-within .ensures (lent start) (book-whole (world start) 0 (sym (asked checked) ∙ sym (numbered .number .ensures) ∙ yes .if1 .taken) .0)
+returns-3 : tie.Need-returns-3
+returns-3 c =
+    let yes : tie.Then3 = search in
+    let book : tie.Else1 = search in
+    let rows : tie.Else2 = search in
+    let done : tie.After-settlement-book-periods-within = search in (
+      λ _. done .settlement-book-periods-within .ensures (lent (start-of (checked-of yes))) (whole yes),
+      λ short. absurd (short (book .if1 .left, rows .if2 .left)),
+    )
 
-returns-2 : tie.Need-returns-2
-returns-2 c =
+returns-4 : tie.Need-returns-4
+returns-4 c =
     let checked : tie.After-check-book = search in
-    let numbered : tie.After-number = search in
-    let no : tie.Else1 = search in
-    let start = start-of checked in
-    periods-no-book (world start) (start .args .point) (start .args .element) _ (c .number2 .ensures ∙ asked checked)
-    (λ z. no .if1 .left (numbered .number .ensures ∙ sym (c .number2 .ensures) ∙ z)) (start .args .rows .now)
+    let numbered : tie.After-number3 = search in
+    let no : tie.Else3 = search in
+    let book : tie.Else1 = search in
+    let rows : tie.Else2 = search in
+    let start = start-of checked in (
+      λ _. periods-no-book (world start) (start .args .point) (start .args .element) _ (c .number4 .ensures ∙ asked checked)
+          (λ z. no .if3 .left (numbered .number3 .ensures ∙ sym (c .number4 .ensures) ∙ z)) (start .args .rows .now),
+      λ short. absurd (short (book .if1 .left, rows .if2 .left)),
+    )
 
 pub settlement-book-periods-spec : {M : Type 1} → statement M
 settlement-book-periods-spec =
     tie.close
     (tie.spec
+    number-requires
+    returns
+    number-requires-2
+    returns-2
     book-of-requires
     check-book-requires
-    number-requires
+    number-requires-3
     settlement-book-periods-within-requires
-    number-requires-2
+    number-requires-4
     same-length
-    returns
-    returns-2)
+    returns-3
+    returns-4)

@@ -118,11 +118,11 @@ module _ {M : Type 1} (𝓤 : URA M) (H : Heap 𝓤) (A : Atoms 𝓤) (W : Given
   Post = walkOf 𝓤 H A self.ended stayed (self.clauses 𝓤 H A mem run) .post bound
 
   -- the list with the records at its front
-  abbrev Written : List Record → Type 0
-  Written zs = zs ≡ listTo (recordAt (numbers .values)) count ++ drop-list count blank
+  abbrev AtFront : List Record → Type 0
+  AtFront zs = zs ≡ listTo (recordAt (numbers .values)) count ++ drop-list count blank
 
   module _ (count-is : Is usize count (vint w64 count ∷ [])) (pre : Callable (numbers .values) count) where
-    exits : (zs : List Record) (v : Val) → Written zs
+    exits : (zs : List Record) (v : Val) → AtFront zs
         → ent 𝓤 (⋆ 𝓤 H A (‵ (Array R 1024 .own zs (v ∷ [])) ∷ ‵ (HadShared numbers (named 0)) ∷ [])) (Post v)
     exits zs v e =
         qed W (‵ (Array R 1024 .own zs (v ∷ [])) ∷ ‵ (HadShared numbers (named 0)) ∷ []) ∵
@@ -172,7 +172,7 @@ module _ {M : Type 1} (𝓤 : URA M) (H : Heap 𝓤) (A : Atoms 𝓤) (W : Given
             ∷ ‵ (froom (tyArray T′.mir 1024) l0 0) ∷ ‵ (fdies (tyArray T′.mir 1024) l0) ∷ []
 
         -- behind the call: the list is an array again, and is returned
-        returned : (zs : List Record) → length zs ≡ 1024 → Written zs
+        returned : (zs : List Record) → length zs ≡ 1024 → AtFront zs
             → Sq W (‵ (Elements R 1024 l3 zs) ∷ ‵ (HadShared numbers (named 0)) ∷ ‵ (froom τ-list l7 0) ∷ ‵ (fdies τ-list l7)
             ∷ ‵ (froom τ-ref l6 0) ∷ ‵ (fdies τ-ref l6) ∷ ‵ (froom tyUnit l5 0) ∷ ‵ (fdies tyUnit l5) ∷ ‵ (froom T′.mir l4 0)
             ∷ ‵ (fdies T′.mir l4) ∷ ‵ (fdies (tyArray T′.mir 1024) l3) ∷ held) (runs C Λ E mir.t-6 (atRet E Post))
@@ -214,8 +214,8 @@ module _ {M : Type 1} (𝓤 : URA M) (H : Heap 𝓤) (A : Atoms 𝓤) (W : Given
             (ensured 𝓤 H A put-list.ended (put-list.clauses 𝓤 H A mem run) (κs l3 ν δ) (passed l3 ν δ) tt r)))) (id⊢ 𝓤 _) $ await ! tt $
             pick ! (λ r. split ! $ move ! (1 ∷ []) $
             use1 W (some (λ (zs : Lasts put-list.ended (κs l3 ν δ) (passed l3 ν δ)).
-            ‵ (lasts put-list.ended (κs l3 ν δ) (passed l3 ν δ) zs) ⊛ raw (fact 𝓤 (Written (zs .0))))) (id⊢ 𝓤 _) $ pick ! (λ zs. split ! $
-            move ! (1 ∷ []) $ heard ! (Written (zs .0)) (λ e. fsplit ! $ fsplit ! $ move ! (1 ∷ []) $ feqL ! (λ long. move ! (1 ∷ []) $
+            ‵ (lasts put-list.ended (κs l3 ν δ) (passed l3 ν δ) zs) ⊛ raw (fact 𝓤 (AtFront (zs .0))))) (id⊢ 𝓤 _) $ pick ! (λ zs. split ! $
+            move ! (1 ∷ []) $ heard ! (AtFront (zs .0)) (λ e. fsplit ! $ fsplit ! $ move ! (1 ∷ []) $ feqL ! (λ long. move ! (1 ∷ []) $
             fsplit ! $ drop ! $ fsplit ! $ drop ! $ drop ! $ move ! (1 ∷ []) $ split ! $ fsplit ! $ move ! (1 ∷ []) $ fsplit ! $
             move ! (1 ∷ []) $ drop ! $ move ! (2 ∷ []) $
             feqL ! (λ is. land ! (from ! (stop !)) (init ! 9 refl (nothing-lawful 𝓤 H A W .typed tt _ is .0)) $ move ! (1 ∷ 4 ∷ 2 ∷ []) $
