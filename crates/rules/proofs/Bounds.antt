@@ -68,7 +68,7 @@ module _ (t : Terms) (f : Facts) (e : ℕ) (b : Bounded t f e) where
       by-kind (t .kind e) _ _ _ 10000000000000000
       (count-millionths (f .quantity p e d) (dayPrice (t .price e d 0) (t .days)) mostQuantity 10000000000 _ q (omega arith) (omega arith))
       (count-millionths (f .quantity p e d) (t .price e d 0) mostQuantity mostPrice _ q x (omega arith))
-      (λ k l. let s = sum-abs (λ h. pos (f .energy p d h) *ℤ t .price e d h) 99999980000001 (t .hours d)
+      (λ k l. let s = sum-abs (λ h. pos (f .energy p d h) *ℤ t .price e d h) (mostEnergy * mostTariffPrice) (t .hours d)
       (λ h i. count-price (f .energy p d h) (t .price e d h) mostEnergy mostTariffPrice (b .energy p d h) (b .perKwh k l d h i)) in
       let n = b .hours d in omega arith)
 
