@@ -8,10 +8,11 @@ use native.Mathlib.Omega.{arith}
 use lib.Dec.{T, eqb, ltb, eqb→eq}
 use borrow.Author.Tests.{eqb-true, eqb-false, ne-eqb}
 use Rattle.calendar.specs.Gregorian.{isLeap, hasThirty, daysOfMonth, daysAfter, firstOf, monthNumber, firstDay, InRange}
+use Rattle.calendar.specs.Gregorian.{firstYear, lastYear, yearMonths}
 use Rattle.calendar.proofs.Entries.{both-left, both-right}
 
 -- of 2000 to 2099, each year that 4 divides is a leap year
-pub leap-by-four : (year : ℕ) → 2000 ≤ year → year ≤ 2099 → eqb (year % 4) 0 ≡ isLeap year
+pub leap-by-four : (year : ℕ) → firstYear ≤ year → year ≤ lastYear → eqb (year % 4) 0 ≡ isLeap year
 unfolding isLeap
 leap-by-four year low high = by (eqb (year % 100) 0) refl
   where
@@ -21,13 +22,13 @@ leap-by-four year low high = by (eqb (year % 100) 0) refl
 
 -- the days before a month of a year, that lie so many years and months after January 2000
 abbrev pub shortened : (years months : ℕ) → ℕ
-shortened y m = cond (ltb m 2) 0 (cond (isLeap (2000 + y)) 1 2)
+shortened y m = cond (ltb m 2) 0 (cond (isLeap (firstYear + y)) 1 2)
 
 abbrev pub summed : (years months : ℕ) → ℕ
 summed y m = y * 365 + (y + 3) / 4 + (m * 367 + 5) / 12
 
 abbrev formula : ℕ → ℕ
-formula n = summed (n / 12) (n % 12) - shortened (n / 12) (n % 12)
+formula n = summed (n / yearMonths) (n % yearMonths) - shortened (n / yearMonths) (n % yearMonths)
 
 -- one step is a month's days, and so is each up to n
 abbrev step : ℕ → Bool
@@ -57,13 +58,13 @@ formula-is (suc k) l = step-at 1200 k all-steps (omega arith) ∙ ap (λ (d : �
 
 -- as the code counts
 pub first-by : {year month : ℕ} → InRange year month
-    → summed (year - 2000) (month - 1) - cond (ltb (month - 1) 2) 0 (cond (isLeap year) 1 2) ≡ firstDay year month
+    → summed (year - firstYear) (month - 1) - cond (ltb (month - 1) 2) 0 (cond (isLeap year) 1 2) ≡ firstDay year month
 unfolding firstDay
 first-by {year} {month} r =
     let n = monthNumber year month in
-    let y : n / 12 ≡ year - 2000 = omega (arith, r .first-year, r .january, r .december) in
-    let m : n % 12 ≡ month - 1 = omega (arith, r .first-year, r .january, r .december) in
-    let z : 2000 + (year - 2000) ≡ year = omega (arith, r .first-year) in
+    let y : n / yearMonths ≡ year - firstYear = omega (arith, r .first-year, r .january, r .december) in
+    let m : n % yearMonths ≡ month - 1 = omega (arith, r .first-year, r .january, r .december) in
+    let z : firstYear + (year - firstYear) ≡ year = omega (arith, r .first-year) in
     sym (rw (y, m, z) at (sym (formula-is n (omega (arith, r .first-year, r .last-year, r .january, r .december)))))
 
 -- ---- months of thirty days, in two halves of the year

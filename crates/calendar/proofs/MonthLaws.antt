@@ -8,15 +8,18 @@ use native.Mathlib.Numerals.{add-one}
 use native.Mathlib.Omega.{arith}
 use lib.Dec.{eqb}
 use Rattle.calendar.specs.Gregorian.{isLeap, hasThirty, daysOfMonth, daysAfter, firstOf, monthNumber, firstDay, InRange}
+use Rattle.calendar.specs.Gregorian.{firstYear, longestMonth, shortestMonth, yearMonths}
 
 -- 28 to 31 days
-range : (second leap thirty : Bool) → let days : ℕ = cond second (cond leap 29 28) (cond thirty 30 31) in (28 ≤ days) × (days ≤ 31)
+range : (second leap thirty : Bool)
+    → let days : ℕ = cond second (cond leap 29 28) (cond thirty 30 31) in
+    (shortestMonth ≤ days) × (days ≤ longestMonth)
 range true true thirty = omega arith
 range true false thirty = omega arith
 range false leap true = omega arith
 range false leap false = omega arith
 
-pub days-range : (year month : ℕ) → (28 ≤ daysOfMonth year month) × (daysOfMonth year month ≤ 31)
+pub days-range : (year month : ℕ) → (shortestMonth ≤ daysOfMonth year month) × (daysOfMonth year month ≤ longestMonth)
 unfolding daysOfMonth
 days-range year month = range (eqb month 2) (isLeap year) (hasThirty month)
 
@@ -26,12 +29,13 @@ unfolding firstOf
 first-more n = rw (add-one n)
 
 -- k months later at least 28 k days have passed, so first days increase
-first-grows : (n k : ℕ) → firstOf n + k * 28 ≤ firstOf (n + k)
+first-grows : (n k : ℕ) → firstOf n + k * shortestMonth ≤ firstOf (n + k)
 unfolding firstOf
 first-grows n zero = omega (arith, ap firstOf (add-zero n))
-first-grows n (suc k) = rw add-suc (omega (arith, first-grows n k, days-range (2000 + (n + k) / 12) ((n + k) % 12 + 1)))
+first-grows n (suc k) =
+    rw add-suc (omega (arith, first-grows n k, days-range (firstYear + (n + k) / yearMonths) ((n + k) % yearMonths + 1)))
 
-grows-to : (m n : ℕ) → m ≤ n → firstOf m + (n - m) * 28 ≤ firstOf n
+grows-to : (m n : ℕ) → m ≤ n → firstOf m + (n - m) * shortestMonth ≤ firstOf n
 grows-to m n h = let e : m + (n - m) ≡ n = omega arith in omega (arith, first-grows m (n - m), ap firstOf e)
 
 pub first-ordered : (m n : ℕ) → m ≤ n → firstOf m ≤ firstOf n
@@ -43,26 +47,26 @@ unfolding firstOf daysOfMonth isLeap hasThirty
 first-last = refl
 
 -- a month ends where the next begins
-module _ (year month : ℕ) (from : 2000 ≤ year) (january : 1 ≤ month) (december : month ≤ 12) where
+module _ (year month : ℕ) (from : firstYear ≤ year) (january : 1 ≤ month) (december : month ≤ yearMonths) where
   -- year and month, read back from the number of months
   pub days-after : daysAfter (monthNumber year month) ≡ daysOfMonth year month
   days-after =
-      let y : 2000 + monthNumber year month / 12 ≡ year = omega arith in
-      let m : monthNumber year month % 12 + 1 ≡ month = omega arith in
+      let y : firstYear + monthNumber year month / yearMonths ≡ year = omega arith in
+      let m : monthNumber year month % yearMonths + 1 ≡ month = omega arith in
       rw (y, m)
 
   pub month-ends : firstDay year month + daysOfMonth year month ≡ firstOf (monthNumber year month + 1)
   unfolding firstDay
   month-ends = omega (arith, first-more (monthNumber year month), days-after)
 
-pub next-month : (year month : ℕ) → 2000 ≤ year → 1 ≤ month → month < 12
+pub next-month : (year month : ℕ) → firstYear ≤ year → 1 ≤ month → month < yearMonths
     → firstDay year month + daysOfMonth year month ≡ firstDay year (month + 1)
 unfolding firstDay
 next-month year month from january h =
     let e : monthNumber year month + 1 ≡ monthNumber year (month + 1) = omega arith in
     month-ends year month from january (omega arith) ∙ ap firstOf e
 
-pub next-year : (year : ℕ) → 2000 ≤ year → firstDay year 12 + daysOfMonth year 12 ≡ firstDay (year + 1) 1
+pub next-year : (year : ℕ) → firstYear ≤ year → firstDay year 12 + daysOfMonth year 12 ≡ firstDay (year + 1) 1
 unfolding firstDay
 next-year year from =
     let e : monthNumber year 12 + 1 ≡ monthNumber (year + 1) 1 = omega arith in

@@ -12,7 +12,7 @@ use Rattle.rules.specs.declared.Book.{Book}
 use Rattle.rules.specs.declared.Body.{Body}
 use Rattle.rules.specs.declared.Body.the-variants.{Link, Stop, Quantity, Holder, State, Reading, Block, Round}
 use Rattle.rules.proofs.Body.{the-type}
-use Rattle.rules.specs.Sizes.{dayRoom}
+use Rattle.rules.specs.Sizes.{dayRoom, elementSize}
 use Rattle.rules.specs.Lines.{fee}
 use Rattle.rules.specs.World.{Opening, Tables, rowsOf, kindOf}
 use Rattle.rules.specs.Questions.{pointOf}
@@ -38,7 +38,7 @@ no-link o t Round h = refl
 -- ---- a message that has passed the questions before 17
 
 module _ (b : Book) (o : Lists) where
-  pub link-fits : (x : Body) → Ready (openingIn b o) (tablesIn b o) x → length (o .elementData) ≡ b .elements * 3 → LinkFits (o .elementData) x
+  pub link-fits : (x : Body) → Ready (openingIn b o) (tablesIn b o) x → length (o .elementData) ≡ b .elements * elementSize → LinkFits (o .elementData) x
   unfolding pointOf
   link-fits (Link p e d q) r l =
       let i = point-inside (openingIn b o) (tablesIn b o) (Link p e d q) p refl (r .point) in

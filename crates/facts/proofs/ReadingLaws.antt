@@ -3,6 +3,7 @@ use Prim.Native.Nat.{ℕ, _≤_}
 use native.Mathlib.Nat.{mul-le-mul}
 use native.Mathlib.Omega.{arith}
 use Rattle.calendar.proofs.MonthLaws.{days-range}
+use Rattle.rules.specs.Sizes.{mostPoints}
 use Rattle.rules.specs.declared.Book.{Book}
 use Rattle.rules.specs.World.{readingAt, monthFirst, monthDays}
 use Rattle.rules.specs.Lent.{Lists, openingIn}
@@ -12,6 +13,6 @@ pub place-small : (b : Book) (o : Lists) (p d h : ℕ) → HourOfMonth b p d h �
 unfolding readingAt monthFirst monthDays
 place-small b o p d h m =
     let days = days-range (b .year) (b .month) in
-    let i : p ≤ 256 = omega arith in
+    let i : p ≤ mostPoints = omega arith in
     let k = mul-le-mul i (days .1) in
     omega arith

@@ -13,6 +13,7 @@ use native.Mathlib.Nat.{pow-suc}
 use native.Mathlib.Omega.{arith}
 use borrow.Author.Tests.{le-leb, lt-leb, eq-eqb}
 use Rattle.integers.proofs.Linear.{lin, #, nat, _⊝_}
+use Rattle.rules.specs.Sizes.{pricePlaces}
 use Rattle.rules.proofs.Tests.{cases}
 use Rattle.rules.specs.declared.Fields.{Fields}
 use Rattle.file.specs.declared.fields.Phase.{Phase}
@@ -114,7 +115,7 @@ value-length : (kind owner marks : ℕ) (ps : List ℤ) → length (elementValue
 unfolding elementValue
 value-length kind owner marks ps = rw (prices-length ps) (omega arith)
 
-due-length : (marks : ℕ) (ps : List ℤ) → length ps ≡ cond (eqb (marks / 8 % 2) 1) 24 1 → 3 + 8 * length ps ≡ elementLength marks
+due-length : (marks : ℕ) (ps : List ℤ) → length ps ≡ cond (eqb (marks / 8 % 2) 1) pricePlaces 1 → 3 + 8 * length ps ≡ elementLength marks
 unfolding elementLength
 due-length marks ps h = cases (eqb (marks / 8 % 2) 1) (λ t. rw (h, t)) (λ t. rw (h, t))
 
@@ -130,7 +131,7 @@ element-named : (bytes : List ℕ) (n : ℕ) → tagOf bytes ≡ 2 → lengthOf 
 unfolding fieldNamed
 element-named bytes n t l = rw (t, l)
 
-pub element-decoded : (kind owner marks : ℕ) (ps : List ℤ) (rest : List ℕ) → length ps ≡ cond (eqb (marks / 8 % 2) 1) 24 1
+pub element-decoded : (kind owner marks : ℕ) (ps : List ℤ) (rest : List ℕ) → length ps ≡ cond (eqb (marks / 8 % 2) 1) pricePlaces 1
     → fieldOf (encodeElement kind owner marks ps ++ rest) Phase.Elements ≡ Element 3 (elementLength marks) (3 + elementLength marks)
 unfolding encodeElement
 element-decoded kind owner marks ps rest h =
@@ -142,7 +143,7 @@ element-decoded kind owner marks ps rest h =
     (tag-first 2 (elementValue kind owner marks ps) rest) (length-second 2 (elementValue kind owner marks ps) rest s ∙ n)
 
 -- the value is what stands there
-pub value-decoded : (kind owner marks : ℕ) (ps : List ℤ) (rest : List ℕ) → length ps ≡ cond (eqb (marks / 8 % 2) 1) 24 1
+pub value-decoded : (kind owner marks : ℕ) (ps : List ℤ) (rest : List ℕ) → length ps ≡ cond (eqb (marks / 8 % 2) 1) pricePlaces 1
     → take (elementLength marks) (drop 3 (encodeElement kind owner marks ps ++ rest)) ≡ elementValue kind owner marks ps
 unfolding encodeElement encodeField numberBytes
 value-decoded kind owner marks ps rest h =

@@ -6,16 +6,17 @@ use native.Mathlib.Omega.{arith}
 use lib.IntN.{ℤ, pos}
 use lib.ListN.{length, getD, set, take, drop, length-append, length-drop}
 use lib.Seq.{ext-getD, sets, sets-eq, take-at, drop-append-add, drop-drop}
+use Rattle.rules.specs.Sizes.{recordSize}
 use Rattle.rules.specs.declared.Record.{Record}
 use Rattle.rules.specs.Basics.{listTo}
 use Rattle.rules.proofs.Ranges.{length-listTo, getD-listTo}
 use Rattle.ledger.specs.RecordNumbers.{recordNumbers, numbersOf, numbersAfter, recordAt, RecordPlaces}
 
-pub length-six : (r : Record) → length (recordNumbers r) ≡ 6
+pub length-six : (r : Record) → length (recordNumbers r) ≡ recordSize
 unfolding recordNumbers
 length-six r = refl
 
-pub length-numbers : (rs : List Record) → length (numbersOf rs) ≡ length rs * 6
+pub length-numbers : (rs : List Record) → length (numbersOf rs) ≡ length rs * recordSize
 unfolding numbersOf
 length-numbers [] = refl
 length-numbers (r ∷ rs) = length-append (recordNumbers r) (numbersOf rs) ∙ rw (length-six r) (let h = length-numbers rs in omega arith)
@@ -29,25 +30,29 @@ pub numbers-none : (lent : List ℤ) → lent ≡ numbersAfter [] lent
 unfolding numbersAfter numbersOf
 numbers-none lent = refl
 
-pub length-after : (rs : List Record) (lent : List ℤ) → length rs * 6 ≤ length lent → length (numbersAfter rs lent) ≡ length lent
+pub length-after : (rs : List Record) (lent : List ℤ) → length rs * recordSize ≤ length lent → length (numbersAfter rs lent) ≡ length lent
 unfolding numbersAfter
 length-after rs lent h = length-append (numbersOf rs) _ ∙ rw (length-numbers rs, length-drop) (omega arith)
 
 -- one record more
-pub numbers-put : (rs : List Record) (r : Record) (lent : List ℤ) (n : ℕ) → length rs ≡ n → n * 6 + 5 < length lent
-    → sets (numbersAfter rs lent) (n * 6) (recordNumbers r) ≡ numbersAfter (rs ++ (r ∷ [])) lent
+pub numbers-put : (rs : List Record) (r : Record) (lent : List ℤ) (n : ℕ) → length rs ≡ n → n * recordSize + 5 < length lent
+    → sets (numbersAfter rs lent) (n * recordSize) (recordNumbers r) ≡ numbersAfter (rs ++ (r ∷ [])) lent
 unfolding numbersAfter
 numbers-put rs r lent n e h =
-    let l : length (numbersOf rs) ≡ n * 6 = length-numbers rs ∙ ap (λ k. k * 6) e in
+    let l : length (numbersOf rs) ≡ n * recordSize = length-numbers rs ∙ ap (λ k. k * recordSize) e in
     let s = length-after rs lent (rw e (omega arith)) in
     let k : length (rs ++ (r ∷ [])) ≡ suc n = length-append rs (r ∷ []) ∙ rw e (omega arith) in
-    let rest = drop (n * 6) lent in
-    sets-eq (recordNumbers r) (numbersAfter rs lent) (n * 6) (rw (length-six r, s) (omega arith))
-    ∙ ap (λ (m : ℕ). take (n * 6) (numbersAfter rs lent) ++ recordNumbers r ++ drop (n * 6 + m) (numbersAfter rs lent)) (length-six r)
-    ∙ (ap (λ (m : ℕ). take (n * 6) (numbersOf rs ++ drop (m * 6) lent) ++ recordNumbers r ++ drop (n * 6 + 6) (numbersOf rs ++ drop (m * 6) lent)) e
-    ∙ ap₂ (λ (a b : List ℤ). a ++ recordNumbers r ++ b) (take-at (numbersOf rs) rest (n * 6) l)
-    (ap (λ m. drop (m + 6) (numbersOf rs ++ rest)) (sym l) ∙ drop-append-add (numbersOf rs) rest 6 ∙ drop-drop 6 (n * 6) lent ∙ ap (λ m. drop m lent) (let z : n * 6 + 6 ≡ suc n * 6 = omega arith in z))
-    ∙ ap₂ (λ (a : List ℤ) (m : ℕ). a ++ drop (m * 6) lent) (sym (numbers-more rs r)) (sym k))
+    let rest = drop (n * recordSize) lent in
+    sets-eq (recordNumbers r) (numbersAfter rs lent) (n * recordSize) (rw (length-six r, s) (omega arith))
+    ∙ ap (λ (m : ℕ). take (n * recordSize) (numbersAfter rs lent) ++ recordNumbers r ++ drop (n * recordSize + m) (numbersAfter rs lent))
+    (length-six r)
+    ∙ (ap (λ (m : ℕ). take (n * recordSize) (numbersOf rs ++ drop (m * recordSize) lent) ++ recordNumbers r
+    ++ drop (n * recordSize + recordSize) (numbersOf rs ++ drop (m * recordSize) lent)) e
+    ∙ ap₂ (λ (a b : List ℤ). a ++ recordNumbers r ++ b) (take-at (numbersOf rs) rest (n * recordSize) l)
+    (ap (λ m. drop (m + recordSize) (numbersOf rs ++ rest)) (sym l)
+    ∙ drop-append-add (numbersOf rs) rest recordSize ∙ drop-drop recordSize (n * recordSize) lent
+    ∙ ap (λ m. drop m lent) (let z : n * recordSize + recordSize ≡ suc n * recordSize = omega arith in z))
+    ∙ ap₂ (λ (a : List ℤ) (m : ℕ). a ++ drop (m * recordSize) lent) (sym (numbers-more rs r)) (sym k))
 
 -- six stores one behind the other
 pub six-stores : (xs : List ℤ) (at : ℕ) (a b c d e f : ℤ)
@@ -67,13 +72,13 @@ any-record = record { kind = 0; supplier = 0; element = 0; quantity = pos 0; kro
 
 -- the record behind another
 module _ (r : Record) (xs : List ℤ) (i : ℕ) where
-  first-behind : getD (recordNumbers r ++ xs) (suc i * 6) (pos 0) ≡ getD xs (i * 6) (pos 0)
+  first-behind : getD (recordNumbers r ++ xs) (suc i * recordSize) (pos 0) ≡ getD xs (i * recordSize) (pos 0)
   unfolding recordNumbers
-  first-behind = let n : suc i * 6 ≡ suc (suc (suc (suc (suc (suc (i * 6)))))) = omega arith in rw n
+  first-behind = let n : suc i * recordSize ≡ suc (suc (suc (suc (suc (suc (i * recordSize)))))) = omega arith in rw n
 
-  number-behind : (j : ℕ) → getD (recordNumbers r ++ xs) (suc i * 6 + j) (pos 0) ≡ getD xs (i * 6 + j) (pos 0)
+  number-behind : (j : ℕ) → getD (recordNumbers r ++ xs) (suc i * recordSize + j) (pos 0) ≡ getD xs (i * recordSize + j) (pos 0)
   unfolding recordNumbers
-  number-behind j = let n : suc i * 6 + j ≡ suc (suc (suc (suc (suc (suc (i * 6 + j)))))) = omega arith in rw n
+  number-behind j = let n : suc i * recordSize + j ≡ suc (suc (suc (suc (suc (suc (i * recordSize + j)))))) = omega arith in rw n
 
   record-behind : recordAt (recordNumbers r ++ xs) (suc i) ≡ recordAt xs i
   unfolding recordAt
@@ -117,4 +122,4 @@ places-front (r ∷ rs) xs (suc i) h =
 
 pub records-placed : (rs : List Record) (lent : List ℤ) (i : ℕ) → i < length rs → RecordPlaces (numbersAfter rs lent) i
 unfolding numbersAfter
-records-placed rs lent i h = places-front rs (drop (length rs * 6) lent) i h
+records-placed rs lent i h = places-front rs (drop (length rs * recordSize) lent) i h

@@ -14,6 +14,7 @@ use lib.Signed.{pos-natAbs}
 use lib.Dec.{eqb}
 use borrow.Author.Tests.{eqb-true}
 use Rattle.integers.proofs.Linear.{lin, read, #, nat, _⊝_}
+use Rattle.rules.specs.Sizes.{lastRound, lineSize, recordSize}
 use Rattle.rules.specs.declared.Book.{Book}
 use Rattle.rules.specs.declared.Body.{Body}
 use Rattle.rules.specs.declared.Body.the-variants.{Round}
@@ -105,15 +106,15 @@ sendable b ls ts h k l =
       compared = record {
         line = omega (arith, h .lines);
         total = omega (arith, h .totals);
-        line-right = all-at (λ i. lineRight ls (i * 3)) (linesIn b) (h .lines-right) k l;
-        total-right = all-at (λ i. lineRight ts (i * 3)) (linesIn b) (h .totals-right) k l;
+        line-right = all-at (λ i. lineRight ls (i * lineSize)) (linesIn b) (h .lines-right) k l;
+        total-right = all-at (λ i. lineRight ts (i * lineSize)) (linesIn b) (h .totals-right) k l;
       };
     }
 
 -- ---- the records
 
 pub record-is : (b : Book) (ls ts : List ℤ) (k : ℕ) (r : Line) (x y : ℕ)
-    → LineOf r (movedBy ls ts Measure.quantity (k * 3)) (movedBy ls ts Measure.amount (k * 3)) x y
+    → LineOf r (movedBy ls ts Measure.quantity (k * lineSize)) (movedBy ls ts Measure.amount (k * lineSize)) x y
     → record {
       kind = b .round;
       supplier = k / b .elements + 1;
@@ -139,7 +140,7 @@ module _ (ls ts : List ℤ) where
   unfolding movedCount
   count-none = refl
 
-  pub count-more : (k : ℕ) → movedCount ls ts (k + 1) ≡ movedCount ls ts k + cond (unmovedAt ls ts (k * 3)) 0 1
+  pub count-more : (k : ℕ) → movedCount ls ts (k + 1) ≡ movedCount ls ts k + cond (unmovedAt ls ts (k * lineSize)) 0 1
   unfolding movedCount
   count-more k = rw (add-one k)
 
@@ -147,7 +148,7 @@ module _ (ls ts : List ℤ) where
   pub count-few : (k : ℕ) → movedCount ls ts k ≤ k
   unfolding movedCount
   count-few zero = omega arith
-  count-few (suc k) = let h = count-few k in cases (unmovedAt ls ts (k * 3)) (λ t. rw t (omega arith)) (λ t. rw t (omega arith))
+  count-few (suc k) = let h = count-few k in cases (unmovedAt ls ts (k * lineSize)) (λ t. rw t (omega arith)) (λ t. rw t (omega arith))
 
   -- the first lines have no more than all
   pub count-grows : (k n : ℕ) → movedCount ls ts k ≤ movedCount ls ts (k + n)
@@ -161,7 +162,7 @@ module _ (b : Book) (ls ts : List ℤ) where
   unfolding lineRecords
   records-none = refl
 
-  pub records-more : (k : ℕ) → lineRecords b ls ts (k + 1) ≡ lineRecords b ls ts k ++ cond (unmovedAt ls ts (k * 3)) [] (lineRecord b ls ts k ∷ [])
+  pub records-more : (k : ℕ) → lineRecords b ls ts (k + 1) ≡ lineRecords b ls ts k ++ cond (unmovedAt ls ts (k * lineSize)) [] (lineRecord b ls ts k ∷ [])
   unfolding lineRecords
   records-more k = rw (add-one k)
 
@@ -169,8 +170,8 @@ module _ (b : Book) (ls ts : List ℤ) where
   unfolding lineRecords movedCount
   count-is zero = refl
   count-is (suc k) =
-      length-append (lineRecords b ls ts k) (cond (unmovedAt ls ts (k * 3)) [] (lineRecord b ls ts k ∷ []))
-      ∙ rw (count-is k) (one (unmovedAt ls ts (k * 3)) (movedCount ls ts k))
+      length-append (lineRecords b ls ts k) (cond (unmovedAt ls ts (k * lineSize)) [] (lineRecord b ls ts k ∷ []))
+      ∙ rw (count-is k) (one (unmovedAt ls ts (k * lineSize)) (movedCount ls ts k))
     where
       one : (u : Bool) (m : ℕ) → m + length (cond u [] (lineRecord b ls ts k ∷ [])) ≡ m + cond u 0 1
       one true m = refl
@@ -219,55 +220,58 @@ module _ (ls ts : List ℤ) (e : length ls ≡ length ts) where
   pub length-copied : (i : ℕ) → i ≤ length ls → length (paste ts 0 ls i) ≡ length ts
   length-copied i l = length-paste ts 0 ls i (omega arith) l
 
-  module _ (k : ℕ) (l : k * 3 + 2 < length ls) where
-    stored-past : (m : Measure) → storedAt (paste ts 0 ls (k * 3)) m (k * 3) ≡ storedAt ts m (k * 3)
+  module _ (k : ℕ) (l : k * lineSize + 2 < length ls) where
+    stored-past : (m : Measure) → storedAt (paste ts 0 ls (k * lineSize)) m (k * lineSize) ≡ storedAt ts m (k * lineSize)
     unfolding storedAt
-    stored-past Measure.quantity = past-copied (k * 3) (k * 3) (omega arith) (omega arith)
+    stored-past Measure.quantity = past-copied (k * lineSize) (k * lineSize) (omega arith) (omega arith)
     stored-past Measure.amount =
-        rw (past-copied (k * 3) (k * 3 + 1) (omega arith) (omega arith), past-copied (k * 3) (k * 3 + 2) (omega arith) (omega arith))
+        rw (
+          past-copied (k * lineSize) (k * lineSize + 1) (omega arith) (omega arith),
+          past-copied (k * lineSize) (k * lineSize + 2) (omega arith) (omega arith),
+        )
 
     -- so the line is compared with what was sent
-    pub unmoved-past : unmovedAt ls (paste ts 0 ls (k * 3)) (k * 3) ≡ unmovedAt ls ts (k * 3)
+    pub unmoved-past : unmovedAt ls (paste ts 0 ls (k * lineSize)) (k * lineSize) ≡ unmovedAt ls ts (k * lineSize)
     unfolding unmovedAt movedBy
     unmoved-past = rw (stored-past Measure.quantity, stored-past Measure.amount)
 
-    pub record-past : (b : Book) → lineRecord b ls (paste ts 0 ls (k * 3)) k ≡ lineRecord b ls ts k
+    pub record-past : (b : Book) → lineRecord b ls (paste ts 0 ls (k * lineSize)) k ≡ lineRecord b ls ts k
     unfolding lineRecord movedBy
     record-past b = rw (stored-past Measure.quantity, stored-past Measure.amount)
 
-    pub right-past : lineRight (paste ts 0 ls (k * 3)) (k * 3) ≡ lineRight ts (k * 3)
+    pub right-past : lineRight (paste ts 0 ls (k * lineSize)) (k * lineSize) ≡ lineRight ts (k * lineSize)
     right-past =
-        line-is (paste ts 0 ls (k * 3)) (k * 3)
+        line-is (paste ts 0 ls (k * lineSize)) (k * lineSize)
         ∙ rw (
-          past-copied (k * 3) (k * 3) (omega arith) (omega arith),
-          past-copied (k * 3) (k * 3 + 1) (omega arith) (omega arith),
-          past-copied (k * 3) (k * 3 + 2) (omega arith) (omega arith),
-        ) (sym (line-is ts (k * 3)))
+          past-copied (k * lineSize) (k * lineSize) (omega arith) (omega arith),
+          past-copied (k * lineSize) (k * lineSize + 1) (omega arith) (omega arith),
+          past-copied (k * lineSize) (k * lineSize + 2) (omega arith) (omega arith),
+        ) (sym (line-is ts (k * lineSize)))
 
     -- and one line more is copied
-    pub line-copied : lineCopied ls (paste ts 0 ls (k * 3)) (k * 3) ≡ paste ts 0 ls ((k + 1) * 3)
+    pub line-copied : lineCopied ls (paste ts 0 ls (k * lineSize)) (k * lineSize) ≡ paste ts 0 ls ((k + 1) * lineSize)
     unfolding lineCopied
     line-copied =
         rw (
-          copied-more (k * 3) (k * 3 + 1) (omega arith) refl,
-          copied-more (k * 3 + 1) (k * 3 + 2) (omega arith) (omega arith),
-        ) (copied-more (k * 3 + 2) ((k + 1) * 3) (omega arith) (omega arith))
+          copied-more (k * lineSize) (k * lineSize + 1) (omega arith) refl,
+          copied-more (k * lineSize + 1) (k * lineSize + 2) (omega arith) (omega arith),
+        ) (copied-more (k * lineSize + 2) ((k + 1) * lineSize) (omega arith) (omega arith))
 
 -- ---- the list, one line more
 
 pub list-more : (b : Book) (ls ts : List ℤ) (k n : ℕ) (lent out out′ : List ℤ) → n ≡ movedCount ls ts k
     → out ≡ numbersAfter (lineRecords b ls ts k) lent
-    → out′ ≡ cond (unmovedAt ls ts (k * 3)) out (sets out (n * 6) (recordNumbers (lineRecord b ls ts k)))
-    → (unmovedAt ls ts (k * 3) ≡ false → n * 6 + 5 < length lent)
+    → out′ ≡ cond (unmovedAt ls ts (k * lineSize)) out (sets out (n * recordSize) (recordNumbers (lineRecord b ls ts k)))
+    → (unmovedAt ls ts (k * lineSize) ≡ false → n * recordSize + 5 < length lent)
     → out′ ≡ numbersAfter (lineRecords b ls ts (k + 1)) lent
-list-more b ls ts k n lent out out′ e p q h = cases (unmovedAt ls ts (k * 3))
+list-more b ls ts k n lent out out′ e p q h = cases (unmovedAt ls ts (k * lineSize))
     (λ t. q ∙ rw (t, p, records-more b ls ts k, t, append-nil))
     (λ t. q ∙ rw (t, p, records-more b ls ts k, t)
     (numbers-put (lineRecords b ls ts k) (lineRecord b ls ts k) lent n (count-is b ls ts k ∙ sym e) (h t)))
 
 -- a list has room for the record of a line that has moved
 pub list-room : (ls ts : List ℤ) (count k n room : ℕ) → k < count → n ≡ movedCount ls ts k
-    → movedCount ls ts count * 6 ≤ room → unmovedAt ls ts (k * 3) ≡ false → n * 6 + 5 < room
+    → movedCount ls ts count * recordSize ≤ room → unmovedAt ls ts (k * lineSize) ≡ false → n * recordSize + 5 < room
 list-room ls ts count k n room l e h u =
     let g = count-grows ls ts (k + 1) (count - (k + 1)) in
     let z : k + 1 + (count - (k + 1)) ≡ count = omega arith in
@@ -277,11 +281,11 @@ list-room ls ts count k n room l e h u =
 
 -- ---- a turn of a round: the first lines are copied, and their records stand at the front of the list
 
-module _ (b : Book) (ls ts lent : List ℤ) (h : Settled b ls ts) (room : movedCount ls ts (linesIn b) * 6 ≤ length lent) where
+module _ (b : Book) (ls ts lent : List ℤ) (h : Settled b ls ts) (room : movedCount ls ts (linesIn b) * recordSize ≤ length lent) where
   same-long : length ls ≡ length ts
   same-long = h .lines ∙ sym (h .totals)
 
-  records-long : (k : ℕ) → k ≤ linesIn b → length (lineRecords b ls ts k) * 6 ≤ length lent
+  records-long : (k : ℕ) → k ≤ linesIn b → length (lineRecords b ls ts k) * recordSize ≤ length lent
   records-long k l =
       let g = count-grows ls ts k (linesIn b - k) in
       let z : k + (linesIn b - k) ≡ linesIn b = omega arith in
@@ -292,10 +296,10 @@ module _ (b : Book) (ls ts lent : List ℤ) (h : Settled b ls ts) (room : movedC
   list-long k l = length-after (lineRecords b ls ts k) lent (records-long k l)
 
   module _ (k : ℕ) (l : k < linesIn b) where
-    inside : k * 3 + 2 < length ls
+    inside : k * lineSize + 2 < length ls
     inside = omega (arith, h .lines)
 
-    pub turn-sendable : Sendable b ls (paste ts 0 ls (k * 3)) k
+    pub turn-sendable : Sendable b ls (paste ts 0 ls (k * lineSize)) k
     turn-sendable =
         let s = sendable b ls ts h k l .compared in
         record {
@@ -305,24 +309,25 @@ module _ (b : Book) (ls ts lent : List ℤ) (h : Settled b ls ts) (room : movedC
           below = l;
           compared = record {
             line = s .line;
-            total = rw (length-copied ls ts same-long (k * 3) (omega (arith, inside))) (s .total);
+            total = rw (length-copied ls ts same-long (k * lineSize) (omega (arith, inside))) (s .total);
             line-right = s .line-right;
             total-right = right-past ls ts same-long k inside ∙ s .total-right;
           };
         }
 
-    pub turn-room : (n : ℕ) → n ≡ movedCount ls ts k → unmovedAt ls (paste ts 0 ls (k * 3)) (k * 3) ≡ false
-        → n * 6 + 5 < length (numbersAfter (lineRecords b ls ts k) lent)
+    pub turn-room : (n : ℕ) → n ≡ movedCount ls ts k → unmovedAt ls (paste ts 0 ls (k * lineSize)) (k * lineSize) ≡ false
+        → n * recordSize + 5 < length (numbersAfter (lineRecords b ls ts k) lent)
     turn-room n e u =
         rw (list-long k (omega arith)) (list-room ls ts (linesIn b) k n (length lent) l e room (sym (unmoved-past ls ts same-long k inside) ∙ u))
 
     pub turn-done : (n next : ℕ) (ts′ out out′ : List ℤ) → n ≡ movedCount ls ts k → out ≡ numbersAfter (lineRecords b ls ts k) lent
-        → LineSent b ls (paste ts 0 ls (k * 3)) ts′ k n next out out′
-        → (ts′ ≡ paste ts 0 ls ((k + 1) * 3)) × (next ≡ movedCount ls ts (k + 1)) × (out′ ≡ numbersAfter (lineRecords b ls ts (k + 1)) lent)
+        → LineSent b ls (paste ts 0 ls (k * lineSize)) ts′ k n next out out′
+        → (ts′ ≡ paste ts 0 ls ((k + 1) * lineSize)) × (next ≡ movedCount ls ts (k + 1))
+        × (out′ ≡ numbersAfter (lineRecords b ls ts (k + 1)) lent)
     turn-done n next ts′ out out′ e p g =
         let u = unmoved-past ls ts same-long k inside in (
           g .sent ∙ line-copied ls ts same-long k inside,
-          g .place ∙ rw (u, e) (one (unmovedAt ls ts (k * 3)) (movedCount ls ts k)) ∙ sym (count-more ls ts k),
+          g .place ∙ rw (u, e) (one (unmovedAt ls ts (k * lineSize)) (movedCount ls ts k)) ∙ sym (count-more ls ts k),
           list-more b ls ts k n lent out out′ e p (g .list ∙ rw (u, record-past ls ts same-long k inside b))
               (λ t. list-room ls ts (linesIn b) k n (length lent) l e room t),
         )
@@ -341,8 +346,8 @@ settled b o h =
     record {
       suppliers = n .limited .suppliers;
       elements = n .limited .elements;
-      round-low = within-low 1 3 (b .round) (r .round);
-      round-high = within-high 1 3 (b .round) (r .round);
+      round-low = within-low 1 lastRound (b .round) (r .round);
+      round-high = within-high 1 lastRound (b .round) (r .round);
       lines = n .lines;
       totals = n .sent;
       lines-right = r .lines;
@@ -356,7 +361,7 @@ unfolding written isRound
 round-written w = refl
 
 -- the sent totals are the lines, and the kind advances, records or not
-pub round-sent : (w : World) (totals : List ℤ) (round : ℕ) → totals ≡ w .position .lines → round ≡ min 3 (w .sent .round + 1)
+pub round-sent : (w : World) (totals : List ℤ) (round : ℕ) → totals ≡ w .position .lines → round ≡ min lastRound (w .sent .round + 1)
     → sentAfter w Round ≡ record { totals = totals; round = round }
 unfolding sentAfter isRound
 round-sent w totals round p q = ap₂ (λ (l : List ℤ) (r : ℕ). record { totals = l; round = r }) (sym p) (sym q)

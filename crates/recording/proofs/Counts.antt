@@ -88,7 +88,7 @@ module _ (b : Book) (o : Lists) (g : TableRows b (o .links) (o .holders) (o .sta
         let l = length-take-le (b .periods) (o .links) (g .links .fits) in
         let n = length-stop p e d (take (b .periods) (o .links)) in
         let m = g .links-clear .count in
-        let k : length (stopRows p e d (take (b .periods) (o .links))) ≤ 1024 = omega arith in
+        let k : length (stopRows p e d (take (b .periods) (o .links))) ≤ places = omega arith in
         sym (le-leb _ _ k) ∙ sym (stop-fits p e d)
 
     -- message 3: one, unless a period starts that day
@@ -106,7 +106,7 @@ module _ (b : Book) (o : Lists) (g : TableRows b (o .links) (o .holders) (o .sta
     holder-count p d v h t r s k =
         let l = length-take-le (b .holders) (o .holders) (g .holders .fits) in
         let m = fields (Holder p d v) h in
-        let n = length-record 32 (omega arith) p d v (omega arith) (m .2) (g .holders .order) in
+        let n = length-record holderSize (omega arith) p d v (omega arith) (m .2) (g .holders .order) in
         rw (h, holder-fits p d v, n, l, ← s, one-more) k
 
     pub state-count : (p d v : ℕ) → body ≡ State p d v → (t r : Bool)
@@ -115,7 +115,7 @@ module _ (b : Book) (o : Lists) (g : TableRows b (o .links) (o .holders) (o .sta
     state-count p d v h t r s k =
         let l = length-take-le (b .states) (o .states) (g .states .fits) in
         let m = fields (State p d v) h in
-        let n = length-record 8 (omega arith) p d v (omega arith) (m .2) (g .states .order) in
+        let n = length-record stateSize (omega arith) p d v (omega arith) (m .2) (g .states .order) in
         rw (h, state-fits p d v, n, l, ← s, one-more) k
 
     -- of the messages that the code does not look at, a stop alone writes a row
@@ -138,7 +138,7 @@ module _ (b : Book) (o : Lists) (g : TableRows b (o .links) (o .holders) (o .sta
       fit-as x h = subst (λ y. fits-after y ≡ true) h t
 
       pub link-room : (p e d q : ℕ) → body ≡ Link p e d q → b .periods < places
-      link-room p e d q h = let n : b .periods + 1 ≤ 1024 = leb-true _ _ (sym (link-fits p e d q) ∙ fit-as _ h) in omega arith
+      link-room p e d q h = let n : b .periods + 1 ≤ places = leb-true _ _ (sym (link-fits p e d q) ∙ fit-as _ h) in omega arith
 
       pub quantity-room : (p e d q : ℕ) → body ≡ Quantity p e d q → length (splitRows p e d q (take (b .periods) (o .links))) ≤ places
       quantity-room p e d q h = leb-true _ _ (sym (quantity-fits p e d q) ∙ fit-as _ h)

@@ -10,6 +10,7 @@ use lib.ListN.{length, take}
 use native.Mathlib.Nat.{mul-le-mul-right}
 use native.Mathlib.Omega.{arith}
 use Rattle.calendar.specs.Gregorian.{daysOfMonth}
+use Rattle.rules.specs.Sizes.{mostPoints}
 use Rattle.rules.specs.declared.Book.{Book}
 use Rattle.rules.specs.declared.Body.{Body}
 use Rattle.rules.specs.declared.Body.the-variants.{Link, Stop, Quantity, Holder, State, Reading, Block, Round}
@@ -23,7 +24,7 @@ use Rattle.rules.proofs.Passed.{own-quantity, own-reading, element-link, elemen
 use Rattle.recording.specs.Recorded.{writesRow, RowFits, ReadingFits}
 
 module _ (b : Book) (o : Lists) where
-  inside : (x : Body) (p : ℕ) → Ready (openingIn b o) (tablesIn b o) x → pointOf x ≡ some p → p < 256
+  inside : (x : Body) (p : ℕ) → Ready (openingIn b o) (tablesIn b o) x → pointOf x ≡ some p → p < mostPoints
   inside x p r h =
       let k = point-inside (openingIn b o) (tablesIn b o) x p h (r .point) in
       let l = r .limited .points in

@@ -10,6 +10,7 @@ use lib.Dec.{leb, ltb, eqb}
 use borrow.Author.Tests.{eqb-true, eq-eqb, ltb-true}
 use native.Mathlib.Omega.{arith}
 use native.Mathlib.Nat.{mul-le-mul-right}
+use Rattle.rules.specs.Sizes.{dayRoom, elementRoom, endOfDays, holderSize, hourPlaces, quantityRoom, stateSize}
 use Rattle.rules.specs.declared.Body.{Body}
 use Rattle.rules.specs.declared.Body.the-variants.{Link, Stop, Quantity, Holder, State, Reading, Block, Round}
 use Rattle.rules.specs.Rows.{packPeriod, ofPair, covers, quantityOn, startsOn, nextStart, insertRow, stopRows, splitRows, packValue, recordedOn, recordRow}
@@ -32,11 +33,11 @@ use Rattle.rules.specs.Ready.{Ready}
 use Rattle.rules.proofs.Passed.{own-link, own-quantity, own-reading, element-link, element-stop, element-quantity, point-inside}
 
 pub record Agree (op : Opening) (t : Tables) (s : Fresh) : Type 0 where
-  pub holder : (p d : ℕ) → recordedOn 32 (rowsOf (t .holders)) p d ≡ s .holder p d
-  pub state : (p d : ℕ) → recordedOn 8 (rowsOf (t .states)) p d ≡ s .state p d
+  pub holder : (p d : ℕ) → recordedOn holderSize (rowsOf (t .holders)) p d ≡ s .holder p d
+  pub state : (p d : ℕ) → recordedOn stateSize (rowsOf (t .states)) p d ≡ s .state p d
   pub quantity : (p e d : ℕ) → quantityOn (rowsOf (t .links)) p e d ≡ s .quantity p e d
   pub start : (p e d : ℕ) → startsOn (rowsOf (t .links)) p e d ≡ s .start p e d
-  pub reading : (p d h : ℕ) → p < op .points → monthFirst op ≤ d → d < monthFirst op + monthDays op → h < 24
+  pub reading : (p d h : ℕ) → p < op .points → monthFirst op ≤ d → d < monthFirst op + monthDays op → h < hourPlaces
       → energyOf op t p d h ≡ s .reading p d h
 
 -- ---- periods
@@ -71,7 +72,7 @@ module _ (op : Opening) (t : Tables) (s : Fresh) (ag : Agree op t s) where
     reading = unfold energyOf in ag .reading;
   }
 
-  agree-stop : (p e a : ℕ) → e < 64 → a < 65536 → Agree op (told op t (Stop p e a)) (heard op s (Stop p e a))
+  agree-stop : (p e a : ℕ) → e < elementRoom → a < dayRoom → Agree op (told op t (Stop p e a)) (heard op s (Stop p e a))
   unfolding told heard
   agree-stop p e a he ha =
       agree-links (stopRows p e a (rowsOf (t .links))) p e
@@ -90,7 +91,7 @@ module _ (op : Opening) (t : Tables) (s : Fresh) (ag : Agree op t s) where
   unfolding noStart
   same-next p e a d = all-cong _ _ (d - a) (λ i k. rw (ag .start p e (a + 1 + i)))
 
-  agree-quantity : Run 0 (rowsOf (t .links)) → (p e a q : ℕ) → e < 64 → a < 65536 → q < 1024
+  agree-quantity : Run 0 (rowsOf (t .links)) → (p e a q : ℕ) → e < elementRoom → a < dayRoom → q < quantityRoom
       → linkedIn (rowsOf (t .links)) p e a ≡ true
       → Agree op (told op t (Quantity p e a q)) (heard op s (Quantity p e a q))
   unfolding told heard
@@ -112,15 +113,15 @@ link-end op t p e a = refl
 pub link-fee : (op : Opening) (t : Tables) (p e a : ℕ) → kindOf op e ≡ 2 → linkEnd op t p e a ≡ a + 1
 link-fee op t p e a k = rw (link-end op t p e a, eq-eqb (kindOf op e) 2 k)
 
-pub link-ends : (op : Opening) (t : Tables) (p e a : ℕ) → a < 36525
-    → (a < linkEnd op t p e a) × (linkEnd op t p e a ≤ nextStart (rowsOf (t .links)) p e a) × (linkEnd op t p e a ≤ 36525)
+pub link-ends : (op : Opening) (t : Tables) (p e a : ℕ) → a < endOfDays
+    → (a < linkEnd op t p e a) × (linkEnd op t p e a ≤ nextStart (rowsOf (t .links)) p e a) × (linkEnd op t p e a ≤ endOfDays)
 link-ends op t p e a ha = let n = next-after p e a (rowsOf (t .links)) ha in rw (link-end op t p e a) (cases (eqb (kindOf op e) 2)
     (λ c. rw c (omega arith))
     (λ c. rw c (omega arith)))
 
 module _ (op : Opening) (t : Tables) (s : Fresh) (ag : Agree op t s) where
   -- the days that a link reaches are those of its period
-  link-reaches : (p e a d : ℕ) → a < 36525 → (leb a d && ltb d (linkEnd op t p e a)) ≡ reaches (eqb (kindOf op e) 2) (s .start p e) a d
+  link-reaches : (p e a d : ℕ) → a < endOfDays → (leb a d && ltb d (linkEnd op t p e a)) ≡ reaches (eqb (kindOf op e) 2) (s .start p e) a d
   unfolding reaches
   link-reaches p e a d ha = let m = next-after p e a (rowsOf (t .links)) ha in rw (link-end op t p e a) (cases (eqb (kindOf op e) 2)
       (λ c. rw c (cases (leb a d)
@@ -129,12 +130,12 @@ module _ (op : Opening) (t : Tables) (s : Fresh) (ag : Agree op t s) where
       (λ v. rw v (omega (arith, tests)))))
       (λ u. rw u (sym (omega (arith, tests))))))
       (λ c. rw c (cases (leb a d)
-      (λ u. rw u (cases (ltb d 36525)
+      (λ u. rw u (cases (ltb d endOfDays)
       (λ v. rw (v, same-next op t s ag p e a d, no-start p e a d (rowsOf (t .links)) (omega (arith, tests)) (omega (arith, tests))))
       (λ v. rw v (omega (arith, tests)))))
       (λ u. rw u))))
 
-  agree-link : (p e a q : ℕ) → e < 64 → a < 36525 → q < 1024
+  agree-link : (p e a q : ℕ) → e < elementRoom → a < endOfDays → q < quantityRoom
       → linkedIn (rowsOf (t .links)) p e a ≡ false
       → Agree op (told op t (Link p e a q)) (heard op s (Link p e a q))
   unfolding told heard
@@ -160,23 +161,23 @@ module _ (op : Opening) (t : Tables) (s : Fresh) (ag : Agree op t s) where
 
   -- ---- holders and states
 
-  agree-holder : (p a h : ℕ) → a < 65536 → h < 32 → Agree op (told op t (Holder p a h)) (heard op s (Holder p a h))
+  agree-holder : (p a h : ℕ) → a < dayRoom → h < holderSize → Agree op (told op t (Holder p a h)) (heard op s (Holder p a h))
   unfolding told heard withHolders
   agree-holder p a h ha hh = record {
-    holder = λ p′ d. rw (rows-table (recordRow 32 (packValue 32 p a h) (rowsOf (t .holders))))
-        (recorded-pack 32 p a h ha hh (rowsOf (t .holders)) p′ d ∙ ap (cond (here p a p′ d) (some h)) (ag .holder p′ d));
+    holder = λ p′ d. rw (rows-table (recordRow holderSize (packValue holderSize p a h) (rowsOf (t .holders))))
+        (recorded-pack holderSize p a h ha hh (rowsOf (t .holders)) p′ d ∙ ap (cond (here p a p′ d) (some h)) (ag .holder p′ d));
     state = ag .state;
     quantity = ag .quantity;
     start = ag .start;
     reading = unfold energyOf in ag .reading;
   }
 
-  agree-state : (p a v : ℕ) → a < 65536 → v < 8 → Agree op (told op t (State p a v)) (heard op s (State p a v))
+  agree-state : (p a v : ℕ) → a < dayRoom → v < stateSize → Agree op (told op t (State p a v)) (heard op s (State p a v))
   unfolding told heard withStates
   agree-state p a v ha hv = record {
     holder = ag .holder;
-    state = λ p′ d. rw (rows-table (recordRow 8 (packValue 8 p a v) (rowsOf (t .states))))
-        (recorded-pack 8 p a v ha hv (rowsOf (t .states)) p′ d ∙ ap (cond (here p a p′ d) (some v)) (ag .state p′ d));
+    state = λ p′ d. rw (rows-table (recordRow stateSize (packValue stateSize p a v) (rowsOf (t .states))))
+        (recorded-pack stateSize p a v ha hv (rowsOf (t .states)) p′ d ∙ ap (cond (here p a p′ d) (some v)) (ag .state p′ d));
     quantity = ag .quantity;
     start = ag .start;
     reading = unfold energyOf in ag .reading;
@@ -191,15 +192,15 @@ row-of n p i p′ i′ h h′ e = cases (ltb p p′)
     (λ u. let m = mul-le-mul-right n (ltb-true p′ p u) in absurd (omega arith))
     (λ u. omega (arith, tests)))
 
-read-set : (rs : List ℕ) (points days first : ℕ) → length rs ≡ points * days * 24
-    → (p a h n p′ d h′ : ℕ) → p < points → first ≤ a → a < first + days → h < 24 → first ≤ d → d < first + days → h′ < 24
-    → getD (set rs ((p * days + (a - first)) * 24 + h) n) ((p′ * days + (d - first)) * 24 + h′) 0
-    ≡ cond (here p a p′ d && eqb h′ h) n (getD rs ((p′ * days + (d - first)) * 24 + h′) 0)
+read-set : (rs : List ℕ) (points days first : ℕ) → length rs ≡ points * days * hourPlaces
+    → (p a h n p′ d h′ : ℕ) → p < points → first ≤ a → a < first + days → h < hourPlaces → first ≤ d → d < first + days → h′ < hourPlaces
+    → getD (set rs ((p * days + (a - first)) * hourPlaces + h) n) ((p′ * days + (d - first)) * hourPlaces + h′) 0
+    ≡ cond (here p a p′ d && eqb h′ h) n (getD rs ((p′ * days + (d - first)) * hourPlaces + h′) 0)
 unfolding here
 read-set rs points days first len p a h n p′ d h′ hp h1 h2 hh k1 k2 hh′ =
     let hi : d - first < days = omega arith in
-    let at = (p * days + (a - first)) * 24 + h in
-    let at′ = (p′ * days + (d - first)) * 24 + h′ in
+    let at = (p * days + (a - first)) * hourPlaces + h in
+    let at′ = (p′ * days + (d - first)) * hourPlaces + h′ in
     let m = mul-le-mul-right days hp in
     let j : a - first < days = omega arith in
     cases ((eqb p′ p && eqb d a) && eqb h′ h)
@@ -216,7 +217,7 @@ read-set rs points days first len p a h n p′ d h′ hp h1 h2 hh k1 k2 hh′ =
     false≢true (sym t ∙ rw (u, v, g)))))
 
 module _ (op : Opening) (t : Tables) (s : Fresh) (ag : Agree op t s) where
-  agree-reading : length (t .readings) ≡ readingCount op → (p a h n : ℕ) → p < op .points → h < 24 → monthFirst op ≤ a → a < monthFirst op + monthDays op
+  agree-reading : length (t .readings) ≡ readingCount op → (p a h n : ℕ) → p < op .points → h < hourPlaces → monthFirst op ≤ a → a < monthFirst op + monthDays op
       → Agree op (told op t (Reading p a h n)) (heard op s (Reading p a h n))
   unfolding told heard withReadings energyOf readingAt readingCount
   agree-reading len p a h n hp hh h1 h2 = record {

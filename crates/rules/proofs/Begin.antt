@@ -10,6 +10,7 @@ use lib.Dec.{leb}
 use borrow.Author.Tests.{eq-eqb}
 use native.Mathlib.Omega.{arith}
 use Rattle.integers.proofs.Sums.{sum-zero}
+use Rattle.rules.specs.Sizes.{lineSize, mostEnergy}
 use Rattle.rules.specs.Basics.{within, chained, allIn, latest}
 use Rattle.rules.specs.Lines.{Measure, Terms, line}
 use Rattle.rules.specs.World.{Opening, World, tableOf, lineCount, energyOf, amountOf, storedAt, stored}
@@ -32,7 +33,7 @@ stored-zero n Measure.amount i = rw (getD-same n (i + 1) (pos 0), getD-same n (i
 
 lines-zero : (o : Opening) (n : ℕ) → linesRight o (replicate n (pos 0)) ≡ true
 unfolding linesRight lineRight lineLimit
-lines-zero o n = all-true _ (lineCount o) (λ k l. rw (stored-zero n Measure.quantity (k * 3), stored-zero n Measure.amount (k * 3), getD-same n (k * 3 + 2) (pos 0)))
+lines-zero o n = all-true _ (lineCount o) (λ k l. rw (stored-zero n Measure.quantity (k * lineSize), stored-zero n Measure.amount (k * lineSize), getD-same n (k * lineSize + 2) (pos 0)))
 
 sized-zero : (o : Opening) → linesSized o (replicate (linePlaces o) (pos 0)) ≡ true
 unfolding linesSized
@@ -68,7 +69,7 @@ module _ (w : World) where
         links = unfold linksRight in table-right _ _ [] (unfold chained in refl) (unfold allIn in refl);
         holders = unfold holdersRight in table-right _ _ [] (unfold chained in refl) (unfold allIn in refl);
         states = unfold statesRight in table-right _ _ [] (unfold chained in refl) (unfold allIn in refl);
-        readings = all-same (λ x. leb x 9999999) (readingCount (w .opening)) 0 refl;
+        readings = all-same (λ x. leb x mostEnergy) (readingCount (w .opening)) 0 refl;
         blocks = all-same (λ x. leb x 1) (w .opening .points) 0 refl;
       },
       lines-zero (w .opening) (linePlaces (w .opening)),

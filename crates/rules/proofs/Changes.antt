@@ -5,6 +5,7 @@ use mathlib.Core.Bool.{true, false, not, _&&_, _||_, cond, false≢true, and-fal
 use mathlib.Core.List.{List, [], _∷_}
 use lib.Dec.{leb, ltb, eqb}
 use native.Mathlib.Omega.{arith}
+use Rattle.rules.specs.Sizes.{dayRoom, elementRoom, quantityRoom}
 use Rattle.rules.specs.Rows.{periodFirst, periodEnd, periodQuantity, ofPair, covers, quantityOn, startsOn, nextStart, insertRow, stopRows, splitRows}
 use Rattle.rules.proofs.Tests.{tests, cases, neither, cond-same, eqb-comm}
 use Rattle.rules.proofs.Words.{first-lt, end-lt, quantity-lt, first-pack, end-pack, quantity-pack, pair-pack, pair-pack-same, pair-is, pair-other, covers-is}
@@ -69,8 +70,8 @@ starts-only p e d (w ∷ ws) = cases (ofPair p e w)
     (λ o. simp (o, starts-cons, starts-only p e d ws))
     (λ o. simp (o, starts-cons, starts-only p e d ws))
 
-module _ (p e p′ e′ : ℕ) (he : e < 64) (ne : (eqb p p′ && eqb e e′) ≡ false) where
-  only-stop : (a : ℕ) → a < 65536 → (ws : List ℕ) → only p′ e′ (stopRows p e a ws) ≡ only p′ e′ ws
+module _ (p e p′ e′ : ℕ) (he : e < elementRoom) (ne : (eqb p p′ && eqb e e′) ≡ false) where
+  only-stop : (a : ℕ) → a < dayRoom → (ws : List ℕ) → only p′ e′ (stopRows p e a ws) ≡ only p′ e′ ws
   unfolding only
   only-stop a ha [] = simp stop-nil
   only-stop a ha (w ∷ ws) = simp stop-cons (cases (ofPair p e w)
@@ -82,7 +83,7 @@ module _ (p e p′ e′ : ℕ) (he : e < 64) (ne : (eqb p p′ && eqb e e′) �
       (λ u. simp (o, t, u, n, only-stop a ha ws))))
       (λ o. simp (o, only-stop a ha ws)))
 
-  only-split : (a q : ℕ) → a < 65536 → q < 1024 → (ws : List ℕ) → only p′ e′ (splitRows p e a q ws) ≡ only p′ e′ ws
+  only-split : (a q : ℕ) → a < dayRoom → q < quantityRoom → (ws : List ℕ) → only p′ e′ (splitRows p e a q ws) ≡ only p′ e′ ws
   unfolding only
   only-split a q ha hq [] = simp split-nil
   only-split a q ha hq (w ∷ ws) = simp split-cons (cases (covers p e a w)
@@ -95,22 +96,22 @@ module _ (p e p′ e′ : ℕ) (he : e < 64) (ne : (eqb p p′ && eqb e e′) �
       (λ t. simp (c, t, x, y, ne, n)))
       (λ c. simp (c, only-split a q ha hq ws)))
 
-  module _ (a d : ℕ) (ha : a < 65536) (ws : List ℕ) where
+  module _ (a d : ℕ) (ha : a < dayRoom) (ws : List ℕ) where
     pub quantity-stop-other : quantityOn (stopRows p e a ws) p′ e′ d ≡ quantityOn ws p′ e′ d
     quantity-stop-other = sym (quantity-only p′ e′ d (stopRows p e a ws)) ∙ rw (only-stop a ha ws) (quantity-only p′ e′ d ws)
 
     pub starts-stop-other : startsOn (stopRows p e a ws) p′ e′ d ≡ startsOn ws p′ e′ d
     starts-stop-other = sym (starts-only p′ e′ d (stopRows p e a ws)) ∙ rw (only-stop a ha ws) (starts-only p′ e′ d ws)
 
-    pub quantity-split-other : (q : ℕ) → q < 1024 → quantityOn (splitRows p e a q ws) p′ e′ d ≡ quantityOn ws p′ e′ d
+    pub quantity-split-other : (q : ℕ) → q < quantityRoom → quantityOn (splitRows p e a q ws) p′ e′ d ≡ quantityOn ws p′ e′ d
     quantity-split-other q hq = sym (quantity-only p′ e′ d (splitRows p e a q ws)) ∙ rw (only-split a q ha hq ws) (quantity-only p′ e′ d ws)
 
-    pub starts-split-other : (q : ℕ) → q < 1024 → startsOn (splitRows p e a q ws) p′ e′ d ≡ startsOn ws p′ e′ d
+    pub starts-split-other : (q : ℕ) → q < quantityRoom → startsOn (splitRows p e a q ws) p′ e′ d ≡ startsOn ws p′ e′ d
     starts-split-other q hq = sym (starts-only p′ e′ d (splitRows p e a q ws)) ∙ rw (only-split a q ha hq ws) (starts-only p′ e′ d ws)
 
 -- ---- the pair itself
 
-module _ (p e a d : ℕ) (he : e < 64) (ha : a < 65536) where
+module _ (p e a d : ℕ) (he : e < elementRoom) (ha : a < dayRoom) where
   pub quantity-stop : (ws : List ℕ) → quantityOn (stopRows p e a ws) p e d ≡ cond (leb a d) 0 (quantityOn ws p e d)
   quantity-stop [] = simp (stop-nil, quantity-nil, cond-same)
   quantity-stop (w ∷ ws) = simp (stop-cons, quantity-cons, covers-is) (cases (ofPair p e w)
@@ -150,7 +151,7 @@ module _ (p e a d : ℕ) (he : e < 64) (ha : a < 65536) where
       (λ k. simp (o, t, u, k, starts-cons, starts-stop ws)))))
       (λ o. simp (o, starts-cons, starts-stop ws)))
 
-module _ (p e a q d : ℕ) (he : e < 64) (ha : a < 65536) (hq : q < 1024) where
+module _ (p e a q d : ℕ) (he : e < elementRoom) (ha : a < dayRoom) (hq : q < quantityRoom) where
   pub quantity-split : {k : ℕ} {ws : List ℕ} → Run k ws → linkedIn ws p e a ≡ true
       → quantityOn (splitRows p e a q ws) p e d ≡ cond (leb a d && ltb d (endIn ws p e a)) q (quantityOn ws p e d)
   quantity-split done l = absurd (false≢true (sym (linked-nil p e a) ∙ l))

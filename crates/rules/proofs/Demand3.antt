@@ -12,6 +12,7 @@ use native.Mathlib.Omega.{arith}
 use Rattle.integers.proofs.Linear.{back-again}
 use Rattle.integers.specs.Sums.{sumTo}
 use Rattle.integers.proofs.Sums.{sum-cong}
+use Rattle.rules.specs.Sizes.{holderSize}
 use Rattle.rules.specs.declared.Body.{Body}
 use Rattle.rules.specs.declared.Body.the-variants.{Round}
 use Rattle.rules.specs.declared.Message.{Message}
@@ -157,8 +158,8 @@ holder-high : (o : Opening) (t : Tables) (f : Fresh) → Agree o t f → TablesR
 unfolding freshFacts holdersRight
 holder-high o t f a r p d =
     latest-high (f .holder p) (o .suppliers) d
-    (λ i v e. recorded-high 32 0 (o .suppliers) o (rowsOf (t .holders)) p i v
-    (table-each (earlier 32) (valueRight 32 0 (o .suppliers) o) (t .holders) (r .holders)) (a .holder p i ∙ e))
+    (λ i v e. recorded-high holderSize 0 (o .suppliers) o (rowsOf (t .holders)) p i v
+    (table-each (earlier holderSize) (valueRight holderSize 0 (o .suppliers) o) (t .holders) (r .holders)) (a .holder p i ∙ e))
 
 inside : (m : Measure) → reachedLimit m ≤ lineLimit m
 unfolding reachedLimit lineLimit

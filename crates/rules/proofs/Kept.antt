@@ -13,7 +13,7 @@ use Rattle.rules.specs.declared.Body.the-variants.{Link, Stop, Quantity,
 use Rattle.rules.specs.Basics.{within, chained, allIn}
 use Rattle.rules.specs.Rows.{packPeriod, packValue, recordRow}
 use Rattle.rules.specs.World.{Opening, Tables, World, rowsOf, tableOf}
-use Rattle.rules.specs.Sizes.{places}
+use Rattle.rules.specs.Sizes.{places, endOfDays, holderSize, mostEnergy, stateSize}
 use Rattle.rules.specs.WellFormed.{withinLimits, rowsFit, openingSized, tablesSized, linesSized, periodRight, apart, valueRight, earlier, linksRight, holdersRight, statesRight, tablesRight, linesRight, question2, question3, question4, question5}
 use Rattle.rules.specs.Questions.{pointOf}
 use Rattle.rules.specs.Effects.{withLinks, withHolders, withStates, withReadings, withBlocks, linkEnd, told, movedLine, movedLines, isRound, sentAfter, tablesAfter, linesAfter, posted, question17}
@@ -35,41 +35,41 @@ module _ (op : Opening) (t : Tables) (k : TablesRight op t) where
   unfolding withLinks linksRight
   links-kept rows c a = record { links = table-right apart (periodRight op) rows c a; holders = k .holders; states = k .states; readings = k .readings; blocks = k .blocks }
 
-  holders-kept : (p d h : ℕ) → p < op .points → d < 36525 → h < 32 → h ≤ op .suppliers
-      → TablesRight op (withHolders t (recordRow 32 (packValue 32 p d h) (rowsOf (t .holders))))
+  holders-kept : (p d h : ℕ) → p < op .points → d < endOfDays → h < holderSize → h ≤ op .suppliers
+      → TablesRight op (withHolders t (recordRow holderSize (packValue holderSize p d h) (rowsOf (t .holders))))
   unfolding withHolders holdersRight
   holders-kept p d h hp hd hv hs =
-      let order = earlier 32 in
-      let each = valueRight 32 0 (op .suppliers) op in
+      let order = earlier holderSize in
+      let each = valueRight holderSize 0 (op .suppliers) op in
       record {
         links = k .links;
         holders = table-right order each _
-            (record-chained 32 (omega arith) _ _ (table-ordered order each (t .holders) (k .holders)))
-            (record-right 32 (omega arith) each _ _ (value-right 32 (omega arith) op 0 (op .suppliers) p d h hp hd hv (omega arith) hs) (table-each order each (t .holders) (k .holders)));
+            (record-chained holderSize (omega arith) _ _ (table-ordered order each (t .holders) (k .holders)))
+            (record-right holderSize (omega arith) each _ _ (value-right holderSize (omega arith) op 0 (op .suppliers) p d h hp hd hv (omega arith) hs) (table-each order each (t .holders) (k .holders)));
         states = k .states;
         readings = k .readings;
         blocks = k .blocks;
       }
 
-  states-kept : (p d v : ℕ) → p < op .points → d < 36525 → 1 ≤ v → v ≤ 4
-      → TablesRight op (withStates t (recordRow 8 (packValue 8 p d v) (rowsOf (t .states))))
+  states-kept : (p d v : ℕ) → p < op .points → d < endOfDays → 1 ≤ v → v ≤ 4
+      → TablesRight op (withStates t (recordRow stateSize (packValue stateSize p d v) (rowsOf (t .states))))
   unfolding withStates statesRight
   states-kept p d v hp hd h1 h4 =
-      let order = earlier 8 in
-      let each = valueRight 8 1 4 op in
+      let order = earlier stateSize in
+      let each = valueRight stateSize 1 4 op in
       record {
         links = k .links;
         holders = k .holders;
         states = table-right order each _
-            (record-chained 8 (omega arith) _ _ (table-ordered order each (t .states) (k .states)))
-            (record-right 8 (omega arith) each _ _ (value-right 8 (omega arith) op 1 4 p d v hp hd (omega arith) h1 h4) (table-each order each (t .states) (k .states)));
+            (record-chained stateSize (omega arith) _ _ (table-ordered order each (t .states) (k .states)))
+            (record-right stateSize (omega arith) each _ _ (value-right stateSize (omega arith) op 1 4 p d v hp hd (omega arith) h1 h4) (table-each order each (t .states) (k .states)));
         readings = k .readings;
         blocks = k .blocks;
       }
 
-  readings-kept : (i n : ℕ) → n ≤ 9999999 → TablesRight op (withReadings t (set (t .readings) i n))
+  readings-kept : (i n : ℕ) → n ≤ mostEnergy → TablesRight op (withReadings t (set (t .readings) i n))
   unfolding withReadings
-  readings-kept i n h = record { links = k .links; holders = k .holders; states = k .states; readings = all-set _ (t .readings) i n (le-leb n 9999999 h) (k .readings); blocks = k .blocks }
+  readings-kept i n h = record { links = k .links; holders = k .holders; states = k .states; readings = all-set _ (t .readings) i n (le-leb n mostEnergy h) (k .readings); blocks = k .blocks }
 
   blocks-kept : (p b : ℕ) → b ≤ 1 → TablesRight op (withBlocks t (set (t .blocks) p b))
   unfolding withBlocks

@@ -8,6 +8,7 @@ use lib.Dec.{leb}
 use lib.Signed.{leZ}
 use borrow.Author.Tests.{leb-true, le-leb, lt-ltb}
 use native.Mathlib.Omega.{arith}
+use Rattle.rules.specs.Sizes.{billion}
 use Rattle.rules.specs.Basics.{within}
 use Rattle.rules.specs.Lines.{Measure}
 use Rattle.rules.specs.World.{World, lineAt, kronerOf, billionthsOf, amountOf, storedAt, stored, InBook}
@@ -26,12 +27,13 @@ names f Measure.quantity = refl
 names f Measure.amount = amount-back (f Measure.amount)
 
 -- a number within 0 and 999,999,999 is one of billionths
-form : (k z : ℤ) → leZ (pos 0) z && leZ z (pos 999999999) ≡ true → (kronerOf (amountOf k z) ≡ k) × (billionthsOf (amountOf k z) ≡ natAbs z)
+form : (k z : ℤ) → leZ (pos 0) z && leZ z (pos (billion - 1)) ≡ true
+    → (kronerOf (amountOf k z) ≡ k) × (billionthsOf (amountOf k z) ≡ natAbs z)
 form k (pos b) h =
-    let l = both (leZ (pos 0) (pos b)) (leZ (pos b) (pos 999999999)) h in
-    let m : b < 1000000000 = let n = leb-true b 999999999 (l .1) in omega arith in
+    let l = both (leZ (pos 0) (pos b)) (leZ (pos b) (pos (billion - 1))) h in
+    let m : b < billion = let n = leb-true b (billion - 1) (l .1) in omega arith in
     amount-form k b m
-form k (negsuc b) h = absurd (false≢true (both (leZ (pos 0) (negsuc b)) (leZ (negsuc b) (pos 999999999)) h .0))
+form k (negsuc b) h = absurd (false≢true (both (leZ (pos 0) (negsuc b)) (leZ (negsuc b) (pos (billion - 1))) h .0))
 
 module _ (w : World) (c : Whole w) (s e : ℕ) (b : InBook (w .opening) s e) where
   number : lineNumber w s e ≡ 0
@@ -53,7 +55,7 @@ module _ (w : World) (c : Whole w) (s e : ℕ) (b : InBook (w .opening) s e) whe
       let l = both (linesRight (w .opening) (w .position .lines)) _ (r .1) .0 in
       all-at _ _ l ((s - 1) * w .opening .elements + e) (line-below (w .opening) s e b)
 
-  third : leZ (pos 0) (getD (w .position .lines) (lineAt (w .opening) s e + 2) (pos 0)) && leZ (getD (w .position .lines) (lineAt (w .opening) s e + 2) (pos 0)) (pos 999999999) ≡ true
+  third : leZ (pos 0) (getD (w .position .lines) (lineAt (w .opening) s e + 2) (pos 0)) && leZ (getD (w .position .lines) (lineAt (w .opening) s e + 2) (pos 0)) (pos (billion - 1)) ≡ true
   unfolding lineRight
   third =
       let i = lineAt (w .opening) s e in

@@ -12,6 +12,7 @@ use native.Mathlib.Omega.{arith}
 use Rattle.rules.specs.Basics.{within, chained, allIn}
 use Rattle.rules.specs.World.{Opening, Table, Tables, World, rowsOf, tableOf}
 use Rattle.rules.specs.Sizes.{elementSize, places, pricePlaces}
+use Rattle.rules.specs.Sizes.{firstYear, lastMonth, lastYear, mostElements, mostEnergy, mostLines, mostPoints, mostSuppliers}
 use Rattle.rules.specs.WellFormed.{withinLimits, rowsFit, readingCount, linePlaces, openingSized, tablesSized, linesSized, periodRight, apart, tableRight, linksRight, holdersRight, statesRight, tablesRight, linesRight, question2, question3, question5}
 use Rattle.rules.proofs.Tests.{both}
 use Rattle.rules.proofs.Ranges.{within-low, within-high, all-same}
@@ -22,23 +23,23 @@ use Rattle.rules.specs.Whole.{Limits, TablesRight, Whole}
 pub limits : (o : Opening) → withinLimits o ≡ true → Limits o
 unfolding withinLimits
 limits o h =
-    let h1 = both (within 2000 2099 (o .year)) _ h in
-    let h2 = both (within 1 12 (o .month)) _ (h1 .1) in
-    let h3 = both (within 1 256 (o .points)) _ (h2 .1) in
-    let h4 = both (within 1 16 (o .suppliers)) (within 1 64 (o .elements)) (h3 .1) in
+    let h1 = both (within firstYear lastYear (o .year)) _ h in
+    let h2 = both (within 1 lastMonth (o .month)) _ (h1 .1) in
+    let h3 = both (within 1 mostPoints (o .points)) _ (h2 .1) in
+    let h4 = both (within 1 mostSuppliers (o .suppliers)) (within 1 mostElements (o .elements)) (h3 .1) in
     record {
       month = record {
-        first-year = within-low 2000 2099 (o .year) (h1 .0);
-        last-year = within-high 2000 2099 (o .year) (h1 .0);
-        january = within-low 1 12 (o .month) (h2 .0);
-        december = within-high 1 12 (o .month) (h2 .0);
+        first-year = within-low firstYear lastYear (o .year) (h1 .0);
+        last-year = within-high firstYear lastYear (o .year) (h1 .0);
+        january = within-low 1 lastMonth (o .month) (h2 .0);
+        december = within-high 1 lastMonth (o .month) (h2 .0);
       };
-      points = within-high 1 256 (o .points) (h3 .0);
-      suppliers = within-high 1 16 (o .suppliers) (h4 .0);
-      elements = within-high 1 64 (o .elements) (h4 .1);
+      points = within-high 1 mostPoints (o .points) (h3 .0);
+      suppliers = within-high 1 mostSuppliers (o .suppliers) (h4 .0);
+      elements = within-high 1 mostElements (o .elements) (h4 .1);
     }
 
-pub few-lines : (suppliers elements : ℕ) → suppliers ≤ 16 → elements ≤ 64 → suppliers * elements ≤ 1024
+pub few-lines : (suppliers elements : ℕ) → suppliers ≤ mostSuppliers → elements ≤ mostElements → suppliers * elements ≤ mostLines
 few-lines s e h l = omega (arith, mul-le-mul-right e h)
 
 -- ---- questions 2 and 3: the counts and lengths of every table
@@ -113,7 +114,7 @@ tables-parts o t h =
     let h1 = both (linksRight o (t .links)) _ h in
     let h2 = both (holdersRight o (t .holders)) _ (h1 .1) in
     let h3 = both (statesRight o (t .states)) _ (h2 .1) in
-    let h4 = both (allIn (λ x. leb x 9999999) (t .readings)) (allIn (λ x. leb x 1) (t .blocks)) (h3 .1) in
+    let h4 = both (allIn (λ x. leb x mostEnergy) (t .readings)) (allIn (λ x. leb x 1) (t .blocks)) (h3 .1) in
     record { links = h1 .0; holders = h2 .0; states = h3 .0; readings = h4 .0; blocks = h4 .1 }
 
 -- every part of question 5

@@ -8,6 +8,7 @@ use lib.Dec.{leb, ltb, eqb}
 use lib.ListN.{length}
 use borrow.Author.Tests.{eqb-true, eq-eqb, leb-true, ltb-true, not-true}
 use native.Mathlib.Omega.{arith}
+use Rattle.rules.specs.Sizes.{endOfDays, hourPlaces, mostEnergy, mostQuantity}
 use Rattle.rules.specs.declared.Fields.{Fields}
 use Rattle.rules.specs.declared.Sender.{Sender}
 use Rattle.rules.specs.declared.Body.{Body}
@@ -36,7 +37,7 @@ module _ (suppliers : ℕ) (f : Fields) (P : Body → Type 0) where
     pub quantity : f .kind ≡ 3 → isDay (f .day) && (noHour f && isQuantity (f .value)) ≡ true → P (Quantity (f .point) (f .element) (f .day) (f .value))
     pub holder : f .kind ≡ 4 → isDay (f .day) && (noElement f && leb (f .value) suppliers) ≡ true → P (Holder (f .point) (f .day) (f .value))
     pub state : f .kind ≡ 5 → isDay (f .day) && (noElement f && within 1 4 (f .value)) ≡ true → P (State (f .point) (f .day) (f .value))
-    pub reading : f .kind ≡ 6 → isDay (f .day) && (eqb (f .element) 0 && (ltb (f .hour) 24 && leb (f .value) 9999999)) ≡ true → P (Reading (f .point) (f .day) (f .hour) (f .value))
+    pub reading : f .kind ≡ 6 → isDay (f .day) && (eqb (f .element) 0 && (ltb (f .hour) hourPlaces && leb (f .value) mostEnergy)) ≡ true → P (Reading (f .point) (f .day) (f .hour) (f .value))
     pub block : f .kind ≡ 7 → eqb (f .day) 0 && (noElement f && leb (f .value) 1) ≡ true → P (Block (f .point) (f .value))
     pub round : P Round
 
@@ -78,15 +79,16 @@ module _ (suppliers : ℕ) (f : Fields) (P : Body → Type 0) where
 
 module _ (suppliers : ℕ) (f : Fields) where
   -- a day, and the value's own test
-  day-value : (unused value : Bool) → isDay (f .day) && (unused && value) ≡ true → (f .day < 36525) × (value ≡ true)
+  day-value : (unused value : Bool) → isDay (f .day) && (unused && value) ≡ true → (f .day < endOfDays) × (value ≡ true)
   unfolding isDay
-  day-value unused value h = let k = both (ltb (f .day) 36525) (unused && value) h in (ltb-true _ _ (k .0), both unused value (k .1) .1)
+  day-value unused value h = let k = both (ltb (f .day) endOfDays) (unused && value) h in (ltb-true _ _ (k .0), both unused value (k .1) .1)
 
-  quantity-value : isDay (f .day) && (noHour f && isQuantity (f .value)) ≡ true → (f .day < 36525) × (1 ≤ f .value) × (f .value ≤ 999)
+  quantity-value : isDay (f .day) && (noHour f && isQuantity (f .value)) ≡ true
+      → (f .day < endOfDays) × (1 ≤ f .value) × (f .value ≤ mostQuantity)
   unfolding isQuantity
   quantity-value t =
-      let k = day-value (noHour f) (within 1 999 (f .value)) t in
-      (k .0, within-low 1 999 (f .value) (k .1), within-high 1 999 (f .value) (k .1))
+      let k = day-value (noHour f) (within 1 mostQuantity (f .value)) t in
+      (k .0, within-low 1 mostQuantity (f .value) (k .1), within-high 1 mostQuantity (f .value) (k .1))
 
   pub ranged : (m : Message) → understood suppliers f ≡ some m → Ranged suppliers (m .body)
   ranged =
@@ -97,8 +99,8 @@ module _ (suppliers : ℕ) (f : Fields) where
         holder = λ _ t. let k = day-value (noElement f) (leb (f .value) suppliers) t in (k .0, leb-true _ _ (k .1));
         state = λ _ t. let k = day-value (noElement f) (within 1 4 (f .value)) t in (k .0, within-low 1 4 (f .value) (k .1), within-high 1 4 (f .value) (k .1));
         reading = λ _ t.
-            let k = day-value (eqb (f .element) 0) (ltb (f .hour) 24 && leb (f .value) 9999999) t in
-            let l = both (ltb (f .hour) 24) (leb (f .value) 9999999) (k .1) in
+            let k = day-value (eqb (f .element) 0) (ltb (f .hour) hourPlaces && leb (f .value) mostEnergy) t in
+            let l = both (ltb (f .hour) hourPlaces) (leb (f .value) mostEnergy) (k .1) in
             (k .0, ltb-true _ _ (l .0), leb-true _ _ (l .1));
         block = λ _ t. leb-true _ _ (both (noElement f) (leb (f .value) 1) (both (eqb (f .day) 0) (noElement f && leb (f .value) 1) t .1) .1);
         round = tt;

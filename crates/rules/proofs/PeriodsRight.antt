@@ -7,6 +7,7 @@ use lib.Dec.{leb, ltb, eqb}
 use borrow.Author.Tests.{eqb-true, eq-eqb, le-leb, leb-true, lt-ltb, ltb-true}
 use native.Mathlib.Omega.{arith}
 use native.Mathlib.Nat.{le-refl}
+use Rattle.rules.specs.Sizes.{dayRoom, elementRoom, endOfDays, mostElements, mostQuantity, quantityRoom}
 use Rattle.rules.specs.Rows.{packPeriod, periodPoint, periodElement, periodFirst, periodEnd, periodQuantity, ofPair, covers, nextStart, insertRow, stopRows, splitRows}
 use Rattle.rules.specs.World.{Opening, kindOf}
 use Rattle.rules.specs.Basics.{within, chained, allIn}
@@ -21,9 +22,9 @@ pub record Right (op : Opening) (r : ℕ) : Type 0 where
   pub point : periodPoint r < op .points
   pub element : periodElement r < op .elements
   pub days : periodFirst r < periodEnd r
-  pub last : periodEnd r ≤ 36525
+  pub last : periodEnd r ≤ endOfDays
   pub some : 1 ≤ periodQuantity r
-  pub most : periodQuantity r ≤ 999
+  pub most : periodQuantity r ≤ mostQuantity
   pub fee : kindOf op (periodElement r) ≡ 2 → periodEnd r ≡ suc (periodFirst r)
   pub tariff : kindOf op (periodElement r) ≡ 3 → periodQuantity r ≡ 1
 
@@ -41,9 +42,9 @@ right-of op r h =
     let h1 = both (ltb (periodPoint r) (op .points)) _ h in
     let h2 = both (ltb (periodElement r) (op .elements)) _ (h1 .1) in
     let h3 = both (ltb (periodFirst r) (periodEnd r)) _ (h2 .1) in
-    let h4 = both (leb (periodEnd r) 36525) _ (h3 .1) in
-    let h5 = both (leb 1 (periodQuantity r) && leb (periodQuantity r) 999) _ (h4 .1) in
-    let h6 = both (leb 1 (periodQuantity r)) (leb (periodQuantity r) 999) (h5 .0) in
+    let h4 = both (leb (periodEnd r) endOfDays) _ (h3 .1) in
+    let h5 = both (leb 1 (periodQuantity r) && leb (periodQuantity r) mostQuantity) _ (h4 .1) in
+    let h6 = both (leb 1 (periodQuantity r)) (leb (periodQuantity r) mostQuantity) (h5 .0) in
     let h7 = both (not (eqb (kindOf op (periodElement r)) 2) || eqb (periodEnd r) (suc (periodFirst r))) (not (eqb (kindOf op (periodElement r)) 3) || eqb (periodQuantity r) 1) (h5 .1) in
     record {
       point = ltb-true _ _ (h1 .0);
@@ -107,7 +108,7 @@ run-chained (next {w = r} i j c (next {w = s} i′ j′ c′ r′)) = rw (is-apa
 
 -- ---- a row put in
 
-module _ (p e a b w : ℕ) (he : e < 64) (wp : periodPoint w ≡ p) (we : periodElement w ≡ e) (wa : periodFirst w ≡ a) (wb : periodEnd w ≡ b) (wq : 1 ≤ periodQuantity w) (hb : a < b) where
+module _ (p e a b w : ℕ) (he : e < elementRoom) (wp : periodPoint w ≡ p) (we : periodElement w ≡ e) (wa : periodFirst w ≡ a) (wb : periodEnd w ≡ b) (wq : 1 ≤ periodQuantity w) (hb : a < b) where
   pub run-insert : {k : ℕ} {ws : List ℕ} → k ≤ from w → b ≤ nextStart ws p e a → linkedIn ws p e a ≡ false → Run k ws → Run k (insertRow w ws)
   run-insert h n l done = rw insert-nil (next {w = w} h (omega arith) wq done)
   run-insert h n l (next {w = x} {ws = xs} i j c r) =
@@ -145,7 +146,7 @@ pub record Packed (p e a b q r : ℕ) : Type 0 where
   pub end : periodEnd r ≡ b
   pub quantity : periodQuantity r ≡ q
 
-pub packed : (p e a b q : ℕ) → e < 64 → a < 65536 → b < 65536 → q < 1024 → Packed p e a b q (packPeriod p e a b q)
+pub packed : (p e a b q : ℕ) → e < elementRoom → a < dayRoom → b < dayRoom → q < quantityRoom → Packed p e a b q (packPeriod p e a b q)
 packed p e a b q he ha hb hq =
     record {
       point = point-pack p e a b q he ha hb hq;
@@ -155,7 +156,7 @@ packed p e a b q he ha hb hq =
       quantity = quantity-pack p e a b q he ha hb hq;
     }
 
-module _ (p e a : ℕ) (he : e < 64) (ha : a < 65536) where
+module _ (p e a : ℕ) (he : e < elementRoom) (ha : a < dayRoom) where
   pub run-stop : {k : ℕ} {ws : List ℕ} → Run k ws → Run k (stopRows p e a ws)
   run-stop done = rw stop-nil done
   run-stop {k} (next {w = w} i j c r) = simp stop-cons (cases (ofPair p e w)
@@ -169,7 +170,7 @@ module _ (p e a : ℕ) (he : e < 64) (ha : a < 65536) where
       (λ u. simp (o, t, u) (next i j c (run-stop r)))))
       (λ o. simp o (next i j c (run-stop r))))
 
-  pub run-split : (q : ℕ) → 1 ≤ q → q < 1024 → {k : ℕ} {ws : List ℕ} → Run k ws → Run k (splitRows p e a q ws)
+  pub run-split : (q : ℕ) → 1 ≤ q → q < quantityRoom → {k : ℕ} {ws : List ℕ} → Run k ws → Run k (splitRows p e a q ws)
   run-split q hl hq done = rw split-nil done
   run-split q hl hq {k} (next {w = w} i j c r) = simp split-cons (cases (covers p e a w)
       (λ t. let y = covered p e a w t in
@@ -185,8 +186,8 @@ module _ (p e a : ℕ) (he : e < 64) (ha : a < 65536) where
 
 -- ---- each row right by itself
 
-module _ (op : Opening) (he : op .elements ≤ 64) where
-  pub right-pack : (p e a b q : ℕ) → p < op .points → e < op .elements → a < b → b ≤ 36525 → 1 ≤ q → q ≤ 999
+module _ (op : Opening) (he : op .elements ≤ mostElements) where
+  pub right-pack : (p e a b q : ℕ) → p < op .points → e < op .elements → a < b → b ≤ endOfDays → 1 ≤ q → q ≤ mostQuantity
       → (kindOf op e ≡ 2 → b ≡ suc a) → (kindOf op e ≡ 3 → q ≡ 1) → periodRight op (packPeriod p e a b q) ≡ true
   right-pack p e a b q hp hl hb hd h1 hm fee tariff =
       let f = packed p e a b q (omega arith) (omega arith) (omega arith) (omega arith) in
@@ -208,7 +209,7 @@ module _ (op : Opening) (he : op .elements ≤ 64) where
       (λ t. rw (t, h, k .0, k .1))
       (λ t. rw (t, k .0, right-insert r xs h (k .1))))
 
-  module _ (p e a : ℕ) (ha : a < 36525) where
+  module _ (p e a : ℕ) (ha : a < endOfDays) where
     pub right-stop : (ws : List ℕ) → allIn (periodRight op) ws ≡ true → allIn (periodRight op) (stopRows p e a ws) ≡ true
     unfolding allIn
     right-stop [] h = simp stop-nil
@@ -231,7 +232,7 @@ module _ (op : Opening) (he : op .elements ≤ 64) where
         (λ u. simp (o, t, u, k .0, right-stop xs (k .1)))))
         (λ o. simp (o, k .0, right-stop xs (k .1))))
 
-    pub right-split : (q : ℕ) → 1 ≤ q → q ≤ 999 → (kindOf op e ≡ 3 → ⊥) → (ws : List ℕ) → allIn (periodRight op) ws ≡ true → allIn (periodRight op) (splitRows p e a q ws) ≡ true
+    pub right-split : (q : ℕ) → 1 ≤ q → q ≤ mostQuantity → (kindOf op e ≡ 3 → ⊥) → (ws : List ℕ) → allIn (periodRight op) ws ≡ true → allIn (periodRight op) (splitRows p e a q ws) ≡ true
     unfolding allIn
     right-split q h1 hm nt [] h = simp split-nil
     right-split q h1 hm nt (x ∷ xs) h = let k = both (periodRight op x) _ h in

@@ -7,6 +7,7 @@ use lib.Dec.{leb, ltb, eqb}
 use borrow.Author.Tests.{eq-eqb}
 use native.Mathlib.Omega.{arith}
 use native.Mathlib.Nat.{le-refl}
+use Rattle.rules.specs.Sizes.{endOfDays}
 use Rattle.rules.specs.Rows.{periodFirst, ofPair, quantityOn, startsOn, nextStart}
 use Rattle.rules.specs.Fresh.{noStart, goesOn}
 use Rattle.rules.proofs.Tests.{tests, cases}
@@ -26,7 +27,7 @@ goes-on {ws} p e a d r l h = let m = at-end p e a r l in cases (ltb d (endIn ws 
     rw t (all-false _ (d - a) (x - (a + 1)) (omega (arith, tests)) (rw (s, linked-quantity p e x r) (m .1))))
 
 -- a next start is later, and a day
-pub next-after : (p e a : ℕ) (ws : List ℕ) → a < 36525 → (a < nextStart ws p e a) × (nextStart ws p e a ≤ 36525)
+pub next-after : (p e a : ℕ) (ws : List ℕ) → a < endOfDays → (a < nextStart ws p e a) × (nextStart ws p e a ≤ endOfDays)
 next-after p e a [] h = simp next-nil (h, le-refl _)
 next-after p e a (w ∷ ws) h = let ih = next-after p e a ws h in
     simp next-cons (cases (ofPair p e w)
@@ -48,11 +49,11 @@ next-clear p e a x (w ∷ ws) h m = simp starts-cons (cases (ofPair p e w)
     (λ o. simp (o, next-clear p e a x ws h (simp (next-cons, o) at m))))
 
 -- one starts there, unless it is past the last day
-next-starts : (p e a : ℕ) (ws : List ℕ) → nextStart ws p e a < 36525 → startsOn ws p e (nextStart ws p e a) ≡ true
-next-starts p e a [] m = let n : 36525 < 36525 = simp next-nil at m in absurd (omega arith)
+next-starts : (p e a : ℕ) (ws : List ℕ) → nextStart ws p e a < endOfDays → startsOn ws p e (nextStart ws p e a) ≡ true
+next-starts p e a [] m = let n : endOfDays < endOfDays = simp next-nil at m in absurd (omega arith)
 next-starts p e a (w ∷ ws) m = simp (starts-cons, next-cons) (cases (ofPair p e w)
     (λ o. cases (ltb a (periodFirst w))
-    (λ t. let n : min (periodFirst w) (nextStart ws p e a) < 36525 = simp (next-cons, o, t) at m in
+    (λ t. let n : min (periodFirst w) (nextStart ws p e a) < endOfDays = simp (next-cons, o, t) at m in
     simp (o, t) (cases (leb (periodFirst w) (nextStart ws p e a))
     (λ u. let z : min (periodFirst w) (nextStart ws p e a) ≡ periodFirst w = omega (arith, tests) in
     simp (z, eq-eqb (periodFirst w) (periodFirst w) refl))
@@ -62,7 +63,7 @@ next-starts p e a (w ∷ ws) m = simp (starts-cons, next-cons) (cases (ofPair p 
     (λ o. simp (o, next-starts p e a ws (simp (next-cons, o) at m))))
 
 -- the days from a with no start after it are those before the next start
-pub no-start : (p e a d : ℕ) (ws : List ℕ) → a ≤ d → d < 36525 → noStart (startsOn ws p e) a d ≡ ltb d (nextStart ws p e a)
+pub no-start : (p e a d : ℕ) (ws : List ℕ) → a ≤ d → d < endOfDays → noStart (startsOn ws p e) a d ≡ ltb d (nextStart ws p e a)
 unfolding noStart
 no-start p e a d ws h k = let m = next-after p e a ws (omega arith) in cases (ltb d (nextStart ws p e a))
     (λ t. rw t (all-true _ (d - a) (λ i j. rw (next-clear p e a (a + 1 + i) ws (omega arith) (omega (arith, tests))))))

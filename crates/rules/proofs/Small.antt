@@ -11,6 +11,7 @@ use borrow.Author.Tests.{leb-true}
 use native.Mathlib.Nat.{le-trans}
 use native.Mathlib.Omega.{arith}
 use Rattle.calendar.proofs.MonthLaws.{days-range}
+use Rattle.rules.specs.Sizes.{mostEnergy, mostPrice, mostQuantity, mostTariffPrice, pricePlaces}
 use Rattle.rules.specs.Basics.{within, allTo, allIn}
 use Rattle.rules.specs.Rows.{covers, quantityOn}
 use Rattle.rules.specs.World.{Opening, Tables, rowsOf, monthDays, kindOf, ownerOf, marksOf, marked, passOn, tax, hourly, hoursOf, priceOf, termsOf, readingAt, energyOf, factsOf}
@@ -24,7 +25,7 @@ use Rattle.rules.specs.Whole.{Limits, TablesRight}
 use Rattle.rules.proofs.Parts.{links-each}
 
 -- a linked quantity is that of a right row
-quantity-high : (op : Opening) (rows : List ℕ) → allIn (periodRight op) rows ≡ true → (p e d : ℕ) → quantityOn rows p e d ≤ 999
+quantity-high : (op : Opening) (rows : List ℕ) → allIn (periodRight op) rows ≡ true → (p e d : ℕ) → quantityOn rows p e d ≤ mostQuantity
 unfolding allIn
 quantity-high op [] h p e d = rw quantity-nil (omega arith)
 quantity-high op (r ∷ rs) h p e d =
@@ -37,7 +38,7 @@ quantity-high op (r ∷ rs) h p e d =
 
 module _ (op : Opening) (e : ℕ) (h : elementRight op e ≡ true) where
   -- the sizes of the prices
-  sizes : allTo (λ i. leb (priceSize op e i) (priceLimit (kindOf op e))) 24 ≡ true
+  sizes : allTo (λ i. leb (priceSize op e i) (priceLimit (kindOf op e))) pricePlaces ≡ true
   unfolding elementRight
   sizes =
       let h1 = both (within 1 3 (kindOf op e)) _ h in
@@ -46,24 +47,24 @@ module _ (op : Opening) (e : ℕ) (h : elementRight op e ≡ true) where
       let h4 = both (not (marked op passOn e && eqb (kindOf op e) 2)) _ (h3 .1) in
       let h5 = both (not (marked op tax e) || (eqb (kindOf op e) 3 && eqb (ownerOf op e) 2)) _ (h4 .1) in
       let h6 = both (not (marked op hourly e) || eqb (kindOf op e) 3) _ (h5 .1) in
-      both (allTo (λ i. leb (priceSize op e i) (priceLimit (kindOf op e))) 24) _ (h6 .1) .0
+      both (allTo (λ i. leb (priceSize op e i) (priceLimit (kindOf op e))) pricePlaces) _ (h6 .1) .0
 
-  size-at : (i : ℕ) → i < 24 → natAbs (getD (op .prices) (e * 24 + i) (pos 0)) ≤ priceLimit (kindOf op e)
+  size-at : (i : ℕ) → i < pricePlaces → natAbs (getD (op .prices) (e * pricePlaces + i) (pos 0)) ≤ priceLimit (kindOf op e)
   unfolding priceSize
-  size-at i l = leb-true _ _ (all-at _ 24 sizes i l)
+  size-at i l = leb-true _ _ (all-at _ pricePlaces sizes i l)
 
   -- a price that is used stands at one of the 24 places
-  price-at : (d i : ℕ) → i < 24 → natAbs (priceOf op e d i) ≤ priceLimit (kindOf op e)
+  price-at : (d i : ℕ) → i < pricePlaces → natAbs (priceOf op e d i) ≤ priceLimit (kindOf op e)
   unfolding priceOf
   price-at d i l = cases (marked op hourly e)
       (λ c. rw c (size-at i l))
       (λ c. rw c (size-at 0 (omega arith)))
 
-  limit-high : priceLimit (kindOf op e) ≤ 9999999999
+  limit-high : priceLimit (kindOf op e) ≤ mostPrice
   unfolding priceLimit
   limit-high = cases (eqb (kindOf op e) 3) (λ c. rw c (omega arith)) (λ c. rw c (omega arith))
 
-  limit-tariff : kindOf op e ≢ 1 → kindOf op e ≢ 2 → priceLimit (kindOf op e) ≤ 9999999
+  limit-tariff : kindOf op e ≢ 1 → kindOf op e ≢ 2 → priceLimit (kindOf op e) ≤ mostTariffPrice
   unfolding priceLimit elementRight
   limit-tariff a b =
       let k = both (within 1 3 (kindOf op e)) _ h .0 in
@@ -75,7 +76,7 @@ module _ (op : Opening) (e : ℕ) (h : elementRight op e ≡ true) where
   unfolding termsOf factsOf hoursOf energyOf monthDays
   bounded l t r = record {
     quantity = λ p d. quantity-high op (rowsOf (t .links)) (links-each op (t .links) (r .links)) p e d;
-    energy = λ p d i. leb-true _ _ (all-getD (λ x. leb x 9999999) (t .readings) (readingAt op p d i) 0 refl (r .readings));
+    energy = λ p d i. leb-true _ _ (all-getD (λ x. leb x mostEnergy) (t .readings) (readingAt op p d i) 0 refl (r .readings));
     price = λ d. le-trans (price-at d 0 (omega arith)) limit-high;
     perKwh = λ a b d i k. le-trans (price-at d i k) (limit-tariff a b);
     hours = λ d. omega arith;

@@ -6,6 +6,7 @@ use mathlib.Core.List.{List, [], _∷_}
 use mathlib.Core.Option.{some}
 use lib.Dec.{ltb, eqb}
 use native.Mathlib.Omega.{arith}
+use Rattle.rules.specs.Sizes.{dayRoom}
 use Rattle.rules.specs.Rows.{packValue, valuePoint, valueFirst, valueOf, recordedOn, recordRow}
 use Rattle.rules.specs.Fresh.{here}
 use Rattle.rules.proofs.Tests.{tests, cases, both, eqb-comm}
@@ -17,7 +18,7 @@ module _ (size : ℕ) where
   unfolding valuePoint valueFirst
   dated-same p d x w h = rw h
 
-  dated-key : (p d w : ℕ) → dated size p d w ≡ true → w / size ≡ p * 65536 + d
+  dated-key : (p d w : ℕ) → dated size p d w ≡ true → w / size ≡ p * dayRoom + d
   unfolding valuePoint valueFirst
   dated-key p d w h = let k = both (eqb (valuePoint size w) p) (eqb (valueFirst size w) d) h in omega (arith, tests)
 
@@ -37,7 +38,7 @@ module _ (size : ℕ) where
       (λ l. simp l))))))
 
   -- the new value at its own point and day, the old one elsewhere
-  pub recorded-pack : (p a v : ℕ) → a < 65536 → v < size → (ws : List ℕ) (p′ d : ℕ)
+  pub recorded-pack : (p a v : ℕ) → a < dayRoom → v < size → (ws : List ℕ) (p′ d : ℕ)
       → recordedOn size (recordRow size (packValue size p a v) ws) p′ d ≡ cond (here p a p′ d) (some v) (recordedOn size ws p′ d)
   unfolding here
   recorded-pack p a v ha hv ws p′ d =

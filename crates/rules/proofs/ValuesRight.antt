@@ -67,11 +67,11 @@ module _ (size : ℕ) (pos : 0 < size) where
       (λ u. simp (t, u, h, k .0, k .1))
       (λ u. simp (t, u, k .0, record-right ok r xs h (k .1)))))
 
-  pub value-right : (op : Opening) (low high p d v : ℕ) → p < op .points → d < 36525 → v < size → low ≤ v → v ≤ high
+  pub value-right : (op : Opening) (low high p d v : ℕ) → p < op .points → d < endOfDays → v < size → low ≤ v → v ≤ high
       → valueRight size low high op (packValue size p d v) ≡ true
   unfolding valueRight within
   value-right op low high p d v hp hd hv hl hh =
-      rw (point-value size p d v (omega arith) hv, first-value size p d v (omega arith) hv, value-pack size p d v (omega arith) hv, lt-ltb p (op .points) hp, lt-ltb d 36525 hd, le-leb low v hl, le-leb v high hh)
+      rw (point-value size p d v (omega arith) hv, first-value size p d v (omega arith) hv, value-pack size p d v (omega arith) hv, lt-ltb p (op .points) hp, lt-ltb d endOfDays hd, le-leb low v hl, le-leb v high hh)
 
 -- no recorded value is above the limit
 pub recorded-high : (size low high : ℕ) (op : Opening) (rows : List ℕ) (p d v : ℕ) → allIn (valueRight size low high op) rows ≡ true

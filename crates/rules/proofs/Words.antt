@@ -7,6 +7,7 @@ use lib.Dec.{leb, ltb, eqb}
 use borrow.Author.Tests.{eqb-true, eq-eqb}
 use native.Mathlib.Omega.{arith}
 use native.Mathlib.Nat.{mul-add-div-right, div-eq-of-lt, mul-add-mod-self-right, mod-eq-of-lt}
+use Rattle.rules.specs.Sizes.{dayRoom, elementRoom, firstUnit, quantityRoom}
 use Rattle.rules.specs.Rows.{packPeriod, periodPoint, periodElement, periodFirst, periodEnd, periodQuantity, ofPair, covers, packValue, valuePoint, valueFirst, valueOf}
 use Rattle.rules.proofs.Tests.{both}
 use Rattle.rules.specs.Order.{from}
@@ -14,23 +15,23 @@ use Rattle.rules.specs.Order.{from}
 -- ---- periods
 
 module _ (w : ℕ) where
-  pub element-lt : periodElement w < 64
+  pub element-lt : periodElement w < elementRoom
   unfolding periodElement
   element-lt = omega arith
 
-  pub first-lt : periodFirst w < 65536
+  pub first-lt : periodFirst w < dayRoom
   unfolding periodFirst
   first-lt = omega arith
 
-  pub end-lt : periodEnd w < 65536
+  pub end-lt : periodEnd w < dayRoom
   unfolding periodEnd
   end-lt = omega arith
 
-  pub quantity-lt : periodQuantity w < 1024
+  pub quantity-lt : periodQuantity w < quantityRoom
   unfolding periodQuantity
   quantity-lt = omega arith
 
-module _ (p e a b q : ℕ) (he : e < 64) (ha : a < 65536) (hb : b < 65536) (hq : q < 1024) where
+module _ (p e a b q : ℕ) (he : e < elementRoom) (ha : a < dayRoom) (hb : b < dayRoom) (hq : q < quantityRoom) where
   pub point-pack : periodPoint (packPeriod p e a b q) ≡ p
   unfolding periodPoint packPeriod
   point-pack = omega arith
@@ -59,9 +60,9 @@ module _ (p e a b q : ℕ) (he : e < 64) (ha : a < 65536) (hb : b < 65536) (hq :
   pair-pack-same = rw (pair-pack p e, eq-eqb p p refl, eq-eqb e e refl)
 
 abbrev pub spot : ℕ → ℕ → ℕ → ℕ
-spot p e d = (p * 64 + e) * 65536 + d
+spot p e d = (p * elementRoom + e) * dayRoom + d
 
-pub from-is : (w : ℕ) → from w ≡ w / 67108864
+pub from-is : (w : ℕ) → from w ≡ w / firstUnit
 unfolding periodPoint periodElement periodFirst
 from-is w = omega arith
 
@@ -79,7 +80,7 @@ pub pair-is : (p e w : ℕ) → periodPoint w ≡ p → periodElement w ≡ e �
 unfolding ofPair
 pair-is p e w h k = rw (eq-eqb _ _ h, eq-eqb _ _ k)
 
-pub pair-false : (p e w : ℕ) → e < 64 → ofPair p e w ≡ false → periodPoint w * 64 + periodElement w ≢ p * 64 + e
+pub pair-false : (p e w : ℕ) → e < elementRoom → ofPair p e w ≡ false → periodPoint w * elementRoom + periodElement w ≢ p * elementRoom + e
 pair-false p e w he h k =
     let l = element-lt w in
     false≢true (sym h ∙ pair-is p e w (omega arith) (omega arith))
@@ -97,10 +98,10 @@ covers-is p e d w = refl
 
 -- ---- dated values
 
-module _ (size p d v : ℕ) (hd : d < 65536) (hv : v < size) where
-  pub key-pack : packValue size p d v / size ≡ p * 65536 + d
+module _ (size p d v : ℕ) (hd : d < dayRoom) (hv : v < size) where
+  pub key-pack : packValue size p d v / size ≡ p * dayRoom + d
   unfolding packValue
-  key-pack = rw (mul-add-div-right {m = size} (omega arith) (p * 65536 + d) v, div-eq-of-lt hv) (omega arith)
+  key-pack = rw (mul-add-div-right {m = size} (omega arith) (p * dayRoom + d) v, div-eq-of-lt hv) (omega arith)
 
   pub point-value : valuePoint size (packValue size p d v) ≡ p
   unfolding valuePoint
@@ -112,4 +113,4 @@ module _ (size p d v : ℕ) (hd : d < 65536) (hv : v < size) where
 
   pub value-pack : valueOf size (packValue size p d v) ≡ v
   unfolding valueOf packValue
-  value-pack = mul-add-mod-self-right (p * 65536 + d) size v ∙ mod-eq-of-lt hv
+  value-pack = mul-add-mod-self-right (p * dayRoom + d) size v ∙ mod-eq-of-lt hv

@@ -7,6 +7,7 @@ use mathlib.Core.Bool.{true, false}
 use mathlib.Core.List.{List, [], _∷_, _++_}
 use lib.IntN.{ℤ}
 use lib.ListN.{length, take, drop}
+use Rattle.rules.specs.Sizes.{recordSize}
 use Rattle.rules.specs.declared.Book.{Book}
 use Rattle.rules.specs.declared.Fields.{Fields}
 use Rattle.rules.specs.World.{World}
@@ -20,7 +21,7 @@ use Rattle.file.specs.declared.fields.Phase.{Phase}
 use Rattle.file.specs.declared.fields.Found.{Found}
 use Rattle.file.specs.declared.fields.Found.the-variants.{Month, Element, Message, End, More, Broken}
 use Rattle.file.specs.Lines.{refusedLine, longestLine, Written}
-use Rattle.file.specs.Program.{endedBy, recordPlaces, answered, Heading, describedAll, pricesAll}
+use Rattle.file.specs.Program.{endedBy, recordPlaces, settlePoints, answered, Heading, describedAll, pricesAll}
 use Rattle.file.proofs.PlacedLaws.{loosened}
 use Rattle.runner.specs.declared.Progress.{Progress}
 use Rattle.runner.specs.declared.Advanced.{Advanced}
@@ -85,8 +86,9 @@ module _ (b : Book) (t : Lists) (e : Ends) (q : e ≡ endsOf b) (s : Sized t) (g
       ∙ ap (worldIn (r .book)) (parts-back e t x (within b g e q t s) l)
       ∙ h ∙ ap (λ (y : Ends). step (worldIn b (cutTo y t)) f room) q
 
-  pub arm-message : (at next number : ℕ) (bytes : List ℕ) (lent records : List ℤ) → length lent ≡ recordPlaces * 6
-      → Replied (worldIn b (cutTo e t)) (worldIn (r .book) parts) f r lent records → Whole (worldIn (r .book) parts) → b .points ≤ 16
+  pub arm-message : (at next number : ℕ) (bytes : List ℕ) (lent records : List ℤ) → length lent ≡ recordPlaces * recordSize
+      → Replied (worldIn b (cutTo e t)) (worldIn (r .book) parts) f r lent records
+      → Whole (worldIn (r .book) parts) → b .points ≤ settlePoints
       → (out after : List ℕ) (from : ℕ) (a : Advanced) → Written longestText out after from (a .written) (replyText r number records)
       → a ≡ advancedTo Phase.Messages false (r .book) (number + 1) next (a .written)
       → Advances (moveOn at (messages (frontsWorld b t) number) (Message f next) bytes) (a .progress) (putBack e t x) out after (a .next) from (a .written)
@@ -166,7 +168,7 @@ module _ (p : Progress) (t : Lists) (o : p .over ≡ false) where
   pub record InMessages (stage : Stage) : Type 0 where
     pub is : stage ≡ messages (frontsWorld (p .book) t) (p .number)
     pub whole : Whole (frontsWorld (p .book) t)
-    pub points : p .book .points ≤ 16
+    pub points : p .book .points ≤ settlePoints
 
   pub stage-messages : p .phase ≡ Phase.Messages → (stage : Stage) → Represents p t stage → InMessages stage
   stage-messages e start h = start-messages (sym (h .1) ∙ e)

@@ -6,6 +6,7 @@ use mathlib.Core.Bool.{Bool, true, false}
 use mathlib.Core.List.{List, [], _∷_}
 use types.Run.{OneOf, miss}
 use denote.Enum.Declared.{tagOf}
+use Rattle.rules.specs.Sizes.{elementSize}
 use Rattle.rules.specs.declared.Fields.{Fields}
 use Rattle.rules.specs.World.{World}
 use Rattle.file.specs.declared.fields.Phase.{Phase}
@@ -194,6 +195,7 @@ takes Phase.Messages More g next e = other-take g next e
 takes Phase.Messages Broken g next e = other-take g next e
 
 -- an element's value lies within the bytes
-pub element-inside : (at end from size next : ℕ) (f : Found) → f ≡ Element from size next → Inside at end f → (from + size ≤ end) × (3 ≤ size)
+pub element-inside : (at end from size next : ℕ) (f : Found) → f ≡ Element from size next → Inside at end f
+    → (from + size ≤ end) × (elementSize ≤ size)
 element-inside at end from size next f e h =
     let i : Inside at end (Element from size next) = rw e at h in (omega (arith, i .1, i .2), omega (arith, i .3))

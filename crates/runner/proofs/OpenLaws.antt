@@ -1,5 +1,5 @@
 -- The opening: what `settle` answers is what the code asks, and a book that opens finds the tables as the rules say.
-use Prim.Native.Nat.{ℕ, _*_, _≤_, _<_, min}
+use Prim.Native.Nat.{ℕ, _+_, _*_, _≤_, _<_, min}
 use native.Mathlib.Omega.{arith}
 use mathlib.Core.Path.{_≡_, refl, sym, ap, _∙_}
 use mathlib.Core.Logic.{_≢_}
@@ -11,6 +11,7 @@ use lib.Seq.{length-take-le}
 use lib.Dec.{leb, eqb}
 use borrow.Author.Tests.{eq-eqb, ne-eqb, eqb-true, eqb-false, le-leb, lt-leb, leb-true, leb-false}
 use Rattle.calendar.specs.Gregorian.{InRange, daysOfMonth}
+use Rattle.rules.specs.Sizes.{elementSize, hourPlaces, lineSize, mostElements, pricePlaces}
 use Rattle.rules.specs.declared.Book.{Book}
 use Rattle.rules.specs.World.{Opening, World, tableOf, monthDays, monthFirst, lineCount}
 use Rattle.rules.specs.WellFormed.{withinLimits, rowsFit, openingSized, tablesSized, linesSized, readingCount, linePlaces, question2, question3, question4}
@@ -26,7 +27,7 @@ use Rattle.recording.specs.Opened.{cleared}
 use Rattle.recording.proofs.ClearLaws.{opened-cleared}
 use Rattle.file.specs.declared.fields.Phase.{Phase}
 use Rattle.file.specs.Lines.{longestLine, Written}
-use Rattle.file.specs.Program.{endedBy, Heading, collected, lent, settleAnswer}
+use Rattle.file.specs.Program.{endedBy, Heading, collected, lent, settlePoints, settleAnswer}
 use Rattle.file.proofs.PlacedLaws.{loosened}
 use Rattle.runner.specs.declared.Advanced.{Advanced}
 use Rattle.runner.specs.Stages.{Stage, broken, lineOf, openedTo, opening}
@@ -39,13 +40,13 @@ use Rattle.runner.proofs.PartLaws.{within, limited-fitted}
 
 pub unlimited : (o : Opening) → withinLimits o ≡ false → settleAnswer o ≡ 2
 unfolding settleAnswer openingAnswer question2 ask lent
-unlimited o h = cases (leb (o .points) 16) (λ t. rw (t, h)) (λ t. rw t)
+unlimited o h = cases (leb (o .points) settlePoints) (λ t. rw (t, h)) (λ t. rw t)
 
-pub too-many-points : (o : Opening) → 16 < o .points → settleAnswer o ≡ 2
+pub too-many-points : (o : Opening) → settlePoints < o .points → settleAnswer o ≡ 2
 unfolding settleAnswer ask
-too-many-points o h = rw (lt-leb (o .points) 16 h)
+too-many-points o h = rw (lt-leb (o .points) settlePoints h)
 
-too-many : (o : Opening) → 64 < o .elements → settleAnswer o ≡ 2
+too-many : (o : Opening) → mostElements < o .elements → settleAnswer o ≡ 2
 too-many o h = cases (withinLimits o) (λ t. let l = limits o t in absurd (omega (arith, l .elements))) (λ t. unlimited o t)
 
 -- ---- questions 3 and 4: every table has its exact length
@@ -66,20 +67,21 @@ lent-sized o h =
 front-sized : {A : Type 0} (n : ℕ) (xs : List A) → n ≤ length xs → eqb (length (take n xs)) n ≡ true
 front-sized n xs h = eq-eqb (length (take n xs)) n (length-take-le n xs h)
 
-module _ (b : Book) (t : Lists) (g : Fitted b) (ed : b .elements * 3 ≤ length (t .elementData)) (ps : b .elements * 24 ≤ length (t .prices)) where
+module _ (b : Book) (t : Lists) (g : Fitted b)
+    (ed : b .elements * elementSize ≤ length (t .elementData)) (ps : b .elements * pricePlaces ≤ length (t .prices)) where
   described-sized : openingSized (frontsOpening b t) ≡ true
   unfolding openingSized endsOf
-  described-sized = rw (front-sized (b .elements * 3) (t .elementData) ed, front-sized (b .elements * 24) (t .prices) ps)
+  described-sized = rw (front-sized (b .elements * elementSize) (t .elementData) ed, front-sized (b .elements * pricePlaces) (t .prices) ps)
 
   -- question 4 alone is left
   pub asked-elements : withinLimits (frontsOpening b t) ≡ true → settleAnswer (frontsOpening b t) ≡ elementsAnswer (frontsOpening b t)
   unfolding settleAnswer openingAnswer question2 question4 ask rowsFit tableOf lent
-  asked-elements h = rw (le-leb (b .points) 16 (g .points), h, lent-sized (frontsOpening b t) described-sized)
+  asked-elements h = rw (le-leb (b .points) settlePoints (g .points), h, lent-sized (frontsOpening b t) described-sized)
 
 -- ---- questions 2 to 4 pass
 
 pub record Settles (o : Opening) : Type 0 where
-  pub points : o .points ≤ 16
+  pub points : o .points ≤ settlePoints
   pub limits : Limits o
   pub within : withinLimits o ≡ true
   pub sized : openingSized o ≡ true
@@ -89,7 +91,7 @@ pub record Settles (o : Opening) : Type 0 where
 pub settles : (o : Opening) → settleAnswer o ≡ 0 → Settles o
 unfolding settleAnswer lent question2 question3
 settles o h =
-    let a = asked-passed (leb (o .points) 16) 2 _ 0 (λ k. omega arith) h in
+    let a = asked-passed (leb (o .points) settlePoints) 2 _ 0 (λ k. omega arith) h in
     let p = passed (lent o) (a .1) in
     let l = both (withinLimits o) _ (p .limited) .0 in
     record {
@@ -116,10 +118,10 @@ module _ (b : Book) (t : Lists) (s : Sized t) (h : settleAnswer (frontsOpening b
         s .links,
         s .holders,
         s .states,
-        front-sized (b .points * daysOfMonth (b .year) (b .month) * 24) (t .readings) (f .readings),
+        front-sized (b .points * daysOfMonth (b .year) (b .month) * hourPlaces) (t .readings) (f .readings),
         front-sized (b .points) (t .blocks) (f .blocks),
-        front-sized (b .suppliers * b .elements * 3) (t .lines) (f .lines),
-        front-sized (b .suppliers * b .elements * 3) (t .sent) (f .sent),
+        front-sized (b .suppliers * b .elements * lineSize) (t .lines) (f .lines),
+        front-sized (b .suppliers * b .elements * lineSize) (t .sent) (f .sent),
       )
 
   opens-parts : openingAnswer (frontsWorld (anew b) t) ≡ 0
@@ -136,26 +138,26 @@ module _ (b : Book) (t : Lists) (s : Sized t) (h : settleAnswer (frontsOpening b
 
 -- ---- the values that were read are the tables' opening
 
-count-few : (n : ℕ) → n ≤ 64 → min 65 n ≡ n
+count-few : (n : ℕ) → n ≤ mostElements → min (mostElements + 1) n ≡ n
 count-few n h = omega arith
 
-count-many : (n : ℕ) → 64 < n → 64 < min 65 n
+count-many : (n : ℕ) → mostElements < n → mostElements < min (mostElements + 1) n
 count-many n h = omega arith
 
 module _ (b : Book) (t : Lists) (h : Heading) (values : List (List ℕ)) (v : HoldsValues b (t .elementData) (t .prices) h values) where
-  collected-in : length values ≤ 64 → frontsOpening b t ≡ collected h values
+  collected-in : length values ≤ mostElements → frontsOpening b t ≡ collected h values
   unfolding endsOf collected
   collected-in l = rw (v .book, count-few (length values) l, v .described l, v .priced l)
 
-  collected-many : 64 < length values → 64 < frontsOpening b t .elements
+  collected-many : mostElements < length values → mostElements < frontsOpening b t .elements
   collected-many l = rw (v .book) (count-many (length values) l)
 
-  many : (at : ℕ) (o : Opening) (more : World → Stage) → 64 < o .elements → opening at o more ≡ broken at 2
+  many : (at : ℕ) (o : Opening) (more : World → Stage) → mostElements < o .elements → opening at o more ≡ broken at 2
   unfolding opening
   many at o more l = rw (too-many o l)
 
   opening-in : (at : ℕ) (more : World → Stage) → opening at (frontsOpening b t) more ≡ opening at (collected h values) more
-  opening-in at more = cases (leb (length values) 64)
+  opening-in at more = cases (leb (length values) mostElements)
       (λ l. ap (λ (o : Opening). opening at o more) (collected-in (leb-true _ _ l)))
       (λ l. let k = leb-false _ _ l in many at (frontsOpening b t) more (collected-many k)
       ∙ sym (many at (collected h values) more (unfold collected in k)))

@@ -9,8 +9,9 @@ use mathlib.Core.Option.{Option, none, some}
 use lib.IntN.{ℤ}
 use lib.ListN.{length, take, drop}
 use lib.Seq.{length-take-le, take-at}
-use Rattle.calendar.specs.Gregorian.{daysOfMonth}
+use Rattle.calendar.specs.Gregorian.{daysOfMonth, longestMonth}
 use Rattle.calendar.proofs.MonthLaws.{days-range}
+use Rattle.rules.specs.Sizes.{elementSize, hourPlaces, lineSize, mostElements, mostLines, mostSuppliers, pricePlaces}
 use Rattle.rules.specs.declared.Book.{Book}
 use Rattle.rules.specs.declared.Body.{Body}
 use Rattle.rules.specs.declared.Fields.{Fields}
@@ -22,17 +23,18 @@ use Rattle.rules.specs.Lent.{Lists, worldIn, openingIn, lendElements, lendTable
 use Rattle.rules.proofs.Parts.{limits, lengths}
 use Rattle.rules.specs.Whole.{Whole}
 use Rattle.recording.specs.Opened.{cleared}
+use Rattle.file.specs.Program.{settlePoints}
 use Rattle.runner.specs.declared.parts.Ends.{Ends}
 use Rattle.runner.specs.Parts.{Sized, Fitted, endsOf, cutTo, fronts, frontsWorld, frontsOpening, elementsAnswer}
 
 -- ---- the parts lie within the tables
 
 pub record EndsFit (e : Ends) : Type 0 where
-  pub described : e .described ≤ 192
-  pub priced : e .priced ≤ 1536
-  pub readings : e .readings ≤ 11904
-  pub blocks : e .blocks ≤ 16
-  pub lines : e .lines ≤ 3072
+  pub described : e .described ≤ mostElements * elementSize
+  pub priced : e .priced ≤ mostElements * pricePlaces
+  pub readings : e .readings ≤ settlePoints * longestMonth * hourPlaces
+  pub blocks : e .blocks ≤ settlePoints
+  pub lines : e .lines ≤ mostLines * lineSize
 
 -- of the tables that messages write
 pub record Within (e : Ends) (t : Lists) : Type 0 where
@@ -41,14 +43,14 @@ pub record Within (e : Ends) (t : Lists) : Type 0 where
   pub lines : e .lines ≤ length (t .lines)
   pub sent : e .lines ≤ length (t .sent)
 
-pub month-fits : (points year month : ℕ) → points ≤ 16 → points * daysOfMonth year month ≤ 16 * 31
+pub month-fits : (points year month : ℕ) → points ≤ settlePoints → points * daysOfMonth year month ≤ settlePoints * longestMonth
 month-fits points year month h = mul-le-mul h (days-range year month .1)
 
 pub ends-fit : (b : Book) → Fitted b → (e : Ends) → e ≡ endsOf b → EndsFit e
 unfolding endsOf
 ends-fit b f e q =
     let p = month-fits (b .points) (b .year) (b .month) (f .points) in
-    let l : b .suppliers * b .elements ≤ 16 * 64 = mul-le-mul (f .suppliers) (f .elements) in
+    let l : b .suppliers * b .elements ≤ mostSuppliers * mostElements = mul-le-mul (f .suppliers) (f .elements) in
     let n = f .elements in
     rw q (record { described = omega arith; priced = omega arith; readings = omega arith; blocks = f .points; lines = omega arith })
 
@@ -64,13 +66,13 @@ within b g e q t s =
 
 -- ---- books that they fit
 
-pub limited-fitted : (b : Book) (o : Lists) → withinLimits (openingIn b o) ≡ true → b .points ≤ 16 → Fitted b
+pub limited-fitted : (b : Book) (o : Lists) → withinLimits (openingIn b o) ≡ true → b .points ≤ settlePoints → Fitted b
 limited-fitted b o h p =
     let l = limits (openingIn b o) h in
     record { month = l .month; points = p; suppliers = l .suppliers; elements = l .elements }
 
 -- an open book of at most 16 points
-pub whole-fitted : (b : Book) (t : Lists) → Whole (frontsWorld b t) → b .points ≤ 16 → Fitted b
+pub whole-fitted : (b : Book) (t : Lists) → Whole (frontsWorld b t) → b .points ≤ settlePoints → Fitted b
 whole-fitted b t w p =
     let l = lengths (frontsWorld b t) w .limited in
     record { month = l .month; points = p; suppliers = l .suppliers; elements = l .elements }

@@ -23,7 +23,7 @@ use Rattle.runner.specs.Stages.{Stage, start, elements, messages, over, 
 use Rattle.rules.specs.Lent.{Lists}
 use Rattle.runner.specs.Parts.{Sized}
 use Rattle.runner.specs.Texts.{longestText, lastNumber}
-use Rattle.runner.specs.Holding.{Represents, Stands, Advances, canGoOn, Reached, Stopped}
+use Rattle.runner.specs.Holding.{Represents, Stands, Advances, canGoOn, Reached, longestField, Stopped}
 use Rattle.runner.proofs.StageLaws.{never, move-from, next-inside, pieces}
 use Rattle.runner.proofs.ArmLaws.{wait-move}
 use Rattle.runner.proofs.ValueLaws.{placed-front}
@@ -39,7 +39,8 @@ unfolding isMore fieldOf
 whole-not-more [] phase = refl
 whole-not-more (b ∷ bytes) phase = cases (wholeField (b ∷ bytes) && rightField phase (b ∷ bytes)) (λ t. rw t (named-not-more (b ∷ bytes))) (λ t. rw t)
 
-more-short : (bytes : List ℕ) (phase : Phase) (ended : Bool) → isMore (fieldIn bytes phase ended) ≡ true → (ended ≡ false) × (length bytes < 198)
+more-short : (bytes : List ℕ) (phase : Phase) (ended : Bool) → isMore (fieldIn bytes phase ended) ≡ true
+    → (ended ≡ false) × (length bytes < longestField)
 more-short bytes phase true m = never (sym m ∙ ap isMore (whole-rest bytes phase) ∙ whole-not-more bytes phase)
 more-short bytes phase false m = ⊎-elim
     (λ (u : Undecided bytes (fieldIn bytes phase false)). (refl, u .short))
@@ -148,7 +149,7 @@ pub record Running (ended : Bool) (s : List ℕ) (at : ℕ) (p₀ : Progress) (t
   pub long : length out ≡ room
   pub text : written ≤ room
   pub sized : Sized t
-  pub few : waits ≡ true → (ended ≡ false) × (length s - place < 198)
+  pub few : waits ≡ true → (ended ≡ false) × (length s - place < longestField)
   pub reached : (stage : Stage) → Represents p₀ t₀ stage → Reached ended stage (drop at s) (take written out) p t (drop place s)
 
 pub begins : (ended : Bool) (s : List ℕ) (at : ℕ) (p : Progress) (t : Lists) (out : List ℕ) → at ≤ length s → Sized t → Running ended s at p t (length out) t out p at 0 false
@@ -186,7 +187,7 @@ module _ (ended : Bool) (s : List ℕ) (at : ℕ) (p₀ : Progress) (t₀ : List
             let n = next-inside (stands .stage) i (drop place s) (inside-in (drop place s) (p .phase) ended) in
             omega (arith, turn .place, z, rw length-drop at n, u .inside)
 
-        next-few : a .more ≡ true → (ended ≡ false) × (length s - a .next < 198)
+        next-few : a .more ≡ true → (ended ≡ false) × (length s - a .next < longestField)
         next-few k =
             let z : isMore found ≡ true = sym m ∙ k in
             let q = more-short (drop place s) (p .phase) ended (sym (from-more place (fieldIn (drop place s) (p .phase) ended)) ∙ z) in

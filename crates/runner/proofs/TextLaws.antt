@@ -10,6 +10,7 @@ use borrow.Author.Tests.{ne-eqb}
 use mathlib.Core.Logic.{_≢_}
 use mathlib.Core.Bool.{Bool, true}
 use Rattle.calendar.specs.Gregorian.{daysOfMonth, firstDay}
+use Rattle.rules.specs.Sizes.{recordSize}
 use Rattle.rules.specs.declared.Book.{Book}
 use Rattle.rules.specs.declared.Fields.{Fields}
 use Rattle.rules.specs.declared.Record.{Record}
@@ -72,7 +73,8 @@ line-fits w count m less room same = omega (arith, w .end, w .short)
 -- ---- the records of a message
 
 -- with a list for 1,024 records
-module _ (w after : World) (f : Fields) (r : Reply) (lent out : List ℤ) (long : length lent ≡ recordPlaces * 6) (p : Replied w after f r lent out) where
+module _ (w after : World) (f : Fields) (r : Reply) (lent out : List ℤ)
+    (long : length lent ≡ recordPlaces * recordSize) (p : Replied w after f r lent out) where
   room-is : roomIn lent ≡ recordPlaces
   room-is = omega arith
 

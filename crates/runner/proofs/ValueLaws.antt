@@ -6,6 +6,7 @@ use mathlib.Core.List.{List, [], _∷_, _++_, append-assoc, append-nil}
 use lib.IntN.{ℤ}
 use lib.ListN.{length, take, drop, length-append}
 use lib.Seq.{length-take-le, take-at}
+use Rattle.rules.specs.Sizes.{elementSize, mostElements, pricePlaces}
 use Rattle.rules.specs.declared.Book.{Book}
 use Rattle.rules.proofs.Ranges.{length-listTo}
 use Rattle.recording.specs.Opened.{freshBook}
@@ -21,10 +22,13 @@ placed-front xs at ys n h e =
     let l : length (take at xs ++ ys) ≡ n = length-append (take at xs) ys ∙ ap (λ k. k + length ys) (length-take-le at xs h) ∙ sym e in
     take-at (take at xs ++ ys) (drop (at + length ys) xs) n l
 
-described-more : (values : List (List ℕ)) (value : List ℕ) → describedAll (values ++ (value ∷ [])) ≡ describedAll values ++ take 3 value
+described-more : (values : List (List ℕ)) (value : List ℕ) → describedAll (values ++ (value ∷ []))
+    ≡ describedAll values ++ take elementSize value
 unfolding describedAll
-described-more [] value = append-nil (take 3 value)
-described-more (v ∷ values) value = ap (λ (l : List ℕ). take 3 v ++ l) (described-more values value) ∙ sym (append-assoc (take 3 v) (describedAll values) (take 3 value))
+described-more [] value = append-nil (take elementSize value)
+described-more (v ∷ values) value =
+    ap (λ (l : List ℕ). take elementSize v ++ l) (described-more values value)
+    ∙ sym (append-assoc (take elementSize v) (describedAll values) (take elementSize value))
 
 prices-more : (values : List (List ℕ)) (value : List ℕ) → pricesAll (values ++ (value ∷ [])) ≡ pricesAll values ++ pricesOf value
 unfolding pricesAll
@@ -34,39 +38,42 @@ prices-more (v ∷ values) value = ap (λ (l : List ℤ). pricesOf v ++ l) (pric
 length-more : (values : List (List ℕ)) (value : List ℕ) → length (values ++ (value ∷ [])) ≡ length values + 1
 length-more values value = length-append values (value ∷ [])
 
-prices-long : (value : List ℕ) → length (pricesOf value) ≡ 24
+prices-long : (value : List ℕ) → length (pricesOf value) ≡ pricePlaces
 unfolding pricesOf
-prices-long value = length-listTo (priceAt value) 24
+prices-long value = length-listTo (priceAt value) pricePlaces
 
-counted-more : (n : ℕ) → min 65 (min 65 n + 1) ≡ min 65 (n + 1)
+counted-more : (n : ℕ) → min (mostElements + 1) (min (mostElements + 1) n + 1) ≡ min (mostElements + 1) (n + 1)
 counted-more n = omega arith
 
 module _ (b : Book) (ds : List ℕ) (ps : List ℤ) (h : Heading) (values : List (List ℕ)) (v : HoldsValues b ds ps h values) (value : List ℕ) (r : Book) (c : r ≡ counted b) where
-  book-more : r ≡ freshBook (h .year) (h .month) (h .points) (h .suppliers) (min 65 (length (values ++ (value ∷ []))))
+  book-more : r ≡ freshBook (h .year) (h .month) (h .points) (h .suppliers) (min (mostElements + 1) (length (values ++ (value ∷ []))))
   book-more = c ∙ rw (v .book, length-more values value, counted-more (length values))
 
   -- there is room for it
-  pub value-read : b .elements < 64 → 3 ≤ length value → length ds ≡ 192 → length ps ≡ 1536 → (ds′ : List ℕ) (ps′ : List ℤ) → ds′ ≡ elementBytes ds (b .elements) value → ps′ ≡ elementPrices ps (b .elements) value
+  pub value-read : b .elements < mostElements → elementSize ≤ length value
+      → length ds ≡ mostElements * elementSize → length ps ≡ mostElements * pricePlaces
+      → (ds′ : List ℕ) (ps′ : List ℤ) → ds′ ≡ elementBytes ds (b .elements) value
+      → ps′ ≡ elementPrices ps (b .elements) value
       → HoldsValues r ds′ ps′ h (values ++ (value ∷ []))
   unfolding elementBytes elementPrices
   value-read k m ld lp ds′ ps′ d p =
       let n = length values in
-      let e : b .elements ≡ min 65 n = ap (λ (x : Book). x .elements) (v .book) in
+      let e : b .elements ≡ min (mostElements + 1) n = ap (λ (x : Book). x .elements) (v .book) in
       let z : b .elements ≡ n = omega arith in
-      let l : n ≤ 64 = omega arith in
-      let t : length (take 3 value) ≡ 3 = length-take-le 3 value m in
+      let l : n ≤ mostElements = omega arith in
+      let t : length (take elementSize value) ≡ elementSize = length-take-le elementSize value m in
       record {
         book = book-more;
         described = λ q. rw (d, z, length-more values value, described-more values value, ← v .described l)
-            (placed-front ds (n * 3) (take 3 value) ((n + 1) * 3) (omega arith) (omega (arith, t)));
+            (placed-front ds (n * elementSize) (take elementSize value) ((n + 1) * elementSize) (omega arith) (omega (arith, t)));
         priced = λ q. rw (p, z, length-more values value, prices-more values value, ← v .priced l)
-            (placed-front ps (n * 24) (pricesOf value) ((n + 1) * 24) (omega arith) (omega (arith, prices-long value)));
+            (placed-front ps (n * pricePlaces) (pricesOf value) ((n + 1) * pricePlaces) (omega arith) (omega (arith, prices-long value)));
       }
 
   -- there is none
-  pub value-dropped : 64 ≤ b .elements → HoldsValues r ds ps h (values ++ (value ∷ []))
+  pub value-dropped : mostElements ≤ b .elements → HoldsValues r ds ps h (values ++ (value ∷ []))
   value-dropped k =
       let n = length values in
-      let e : b .elements ≡ min 65 n = ap (λ (x : Book). x .elements) (v .book) in
+      let e : b .elements ≡ min (mostElements + 1) n = ap (λ (x : Book). x .elements) (v .book) in
       let l = length-more values value in
       record { book = book-more; described = λ q. absurd (omega arith); priced = λ q. absurd (omega arith) }

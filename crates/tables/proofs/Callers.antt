@@ -9,6 +9,7 @@ use lib.Dec.{ltb, leb, eqb}
 use lib.ListN.{length}
 use native.Mathlib.Omega.{arith}
 use borrow.Author.Tests.{eqb-true, eq-eqb}
+use Rattle.rules.specs.Sizes.{dayRoom, endOfDays}
 use Rattle.rules.specs.Basics.{latest, orElse}
 use Rattle.rules.specs.Fresh.{here}
 use Rattle.rules.specs.Rows.{periodFirst, periodEnd, ofPair, covers, startsOn, insertRow, stopRows, splitRows, packValue, valuePoint, valueFirst, recordedOn, recordRow}
@@ -75,7 +76,7 @@ given-suc none n = refl
 given-suc (some v) n = refl
 
 module _ (size : ℕ) where
-  is-dated : (p d w : ℕ) → d < 65536 → w / size ≡ p * 65536 + d → dated size p d w ≡ true
+  is-dated : (p d w : ℕ) → d < dayRoom → w / size ≡ p * dayRoom + d → dated size p d w ≡ true
   is-dated p d w h e =
       let k = key-parts size w in
       let a : valuePoint size w ≡ p = omega arith in
@@ -83,7 +84,7 @@ module _ (size : ℕ) where
       rw (eq-eqb _ _ a, eq-eqb _ _ b)
 
   -- one more, unless one is recorded for that point and day
-  pub length-record : 0 < size → (p a v : ℕ) → a < 65536 → v < size → {k : ℕ} {ws : List ℕ} → Rising (λ w. w / size) k ws
+  pub length-record : 0 < size → (p a v : ℕ) → a < dayRoom → v < size → {k : ℕ} {ws : List ℕ} → Rising (λ w. w / size) k ws
       → length (recordRow size (packValue size p a v) ws) ≡ cond (isGiven (recordedOn size ws p a)) (length ws) (suc (length ws))
   unfolding isGiven
   length-record pos p a v ha hv nil = rw (record-nil, recorded-nil)
@@ -114,22 +115,23 @@ module _ (size : ℕ) where
       (λ u. u) in
       rw (recorded-cons, n) (next-clear p a d ws h l′))
 
-  next-given : (p a : ℕ) (ws : List ℕ) → nextRecorded size ws p a < 36525 → isGiven (recordedOn size ws p (nextRecorded size ws p a)) ≡ true
+  next-given : (p a : ℕ) (ws : List ℕ) → nextRecorded size ws p a < endOfDays
+      → isGiven (recordedOn size ws p (nextRecorded size ws p a)) ≡ true
   unfolding nextRecorded isGiven
   next-given p a [] l = absurd (omega arith)
   next-given p a (w ∷ ws) l = cases (eqb (valuePoint size w) p && ltb a (valueFirst size w))
-      (λ t. let l′ : min (valueFirst size w) (nextRecorded size ws p a) < 36525 = rw t at l in
+      (λ t. let l′ : min (valueFirst size w) (nextRecorded size ws p a) < endOfDays = rw t at l in
       let k = both (eqb (valuePoint size w) p) (ltb a (valueFirst size w)) t in
       rw (t, recorded-cons) (cases (eqb (valueFirst size w) (min (valueFirst size w) (nextRecorded size ws p a)))
       (λ u. rw (k .0, u))
       (λ u. let e : min (valueFirst size w) (nextRecorded size ws p a) ≡ nextRecorded size ws p a = omega (arith, tests) in
       rw (u, and-false, e) (next-given p a ws (omega (arith, tests))))))
-      (λ t. let l′ : nextRecorded size ws p a < 36525 = rw t at l in
+      (λ t. let l′ : nextRecorded size ws p a < endOfDays = rw t at l in
       rw (t, recorded-cons) (cases (dated size p (nextRecorded size ws p a) w)
       (λ u. rw u)
       (λ u. rw u (next-given p a ws l′))))
 
-  next-after : (p a : ℕ) (ws : List ℕ) → a < 36525 → a < nextRecorded size ws p a
+  next-after : (p a : ℕ) (ws : List ℕ) → a < endOfDays → a < nextRecorded size ws p a
   unfolding nextRecorded
   next-after p a [] h = h
   next-after p a (w ∷ ws) h = let ih = next-after p a ws h in cases (eqb (valuePoint size w) p && ltb a (valueFirst size w))
@@ -138,13 +140,13 @@ module _ (size : ℕ) where
 
 -- a value put in on day a rules up to the day n on which the next one is recorded
 module _ (f : ℕ → Option ℕ) (a v n : ℕ) (after : a < n) (clear : (d : ℕ) → a < d → d < n → f d ≡ none)
-    (at : n < 36525 → isGiven (f n) ≡ true) where
+    (at : n < endOfDays → isGiven (f n) ≡ true) where
   over : (o : Option ℕ) (x y : ℕ) → isGiven o ≡ true → orElse o x ≡ orElse o y
   unfolding isGiven orElse
   over none x y h = absurd (false≢true h)
   over (some u) x y h = refl
 
-  latest-put : (d : ℕ) → d < 36525 → latest (λ i. cond (eqb i a) (some v) (f i)) d ≡ cond (leb a d && ltb d n) v (latest f d)
+  latest-put : (d : ℕ) → d < endOfDays → latest (λ i. cond (eqb i a) (some v) (f i)) d ≡ cond (leb a d && ltb d n) v (latest f d)
   unfolding latest orElse
   latest-put zero h = cases (eqb 0 a)
       (λ t. let x : leb a 0 ≡ true = omega (arith, tests) in let y : ltb 0 n ≡ true = omega (arith, tests) in rw (t, x, y))
@@ -162,7 +164,7 @@ module _ (f : ℕ → Option ℕ) (a v n : ℕ) (after : a < n) (clear : (d : �
       (λ u. let x : leb a (suc d) ≡ false = omega (arith, tests) in rw (t, x, ih, u)))
 
 -- the new value from its day up to the next recorded one, the old ones elsewhere
-pub latest-record : (size p a v : ℕ) → a < 36525 → v < size → (ws : List ℕ) (d : ℕ) → d < 36525
+pub latest-record : (size p a v : ℕ) → a < endOfDays → v < size → (ws : List ℕ) (d : ℕ) → d < endOfDays
     → latest (recordedOn size (recordRow size (packValue size p a v) ws) p) d
     ≡ cond (leb a d && ltb d (nextRecorded size ws p a)) v (latest (recordedOn size ws p) d)
 unfolding here

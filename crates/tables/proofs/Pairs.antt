@@ -9,6 +9,7 @@ use lib.ListN.{take, drop}
 use native.Mathlib.Omega.{arith}
 use native.Mathlib.Nat.{le-refl, not-suc-le-zero}
 use borrow.Author.Tests.{ltb-true, ltb-false}
+use Rattle.rules.specs.Sizes.{dayRoom, elementRoom}
 use Rattle.rules.specs.Rows.{packPeriod, periodPoint, periodElement, periodFirst, periodEnd, ofPair, stopRows}
 use Rattle.rules.proofs.Tests.{tests, cases}
 use Rattle.rules.specs.Order.{from, upto, Run, done, next}
@@ -21,7 +22,7 @@ use Rattle.tables.proofs.Parts.{take-cut}
 use Rattle.tables.proofs.RowRange.{Between}
 use Rattle.tables.proofs.Days.{below-day, from-day}
 
-module _ (p e : ℕ) (he : e < 64) (w : ℕ) where
+module _ (p e : ℕ) (he : e < elementRoom) (w : ℕ) where
   pair-in : (d : ℕ) → spot p e d ≤ from w → from w < spot p (e + 1) 0 → (ofPair p e w ≡ true) × (d ≤ periodFirst w)
   pair-in d h k =
       let a = first-lt w in
@@ -38,7 +39,7 @@ module _ (p e : ℕ) (he : e < 64) (w : ℕ) where
 
 -- ---- everything recorded for one point and element
 
-pub pair-between : (p e : ℕ) → e < 64 → Between (ofPair p e) (packPeriod p e 0 0 0) (packPeriod p (e + 1) 0 0 0)
+pub pair-between : (p e : ℕ) → e < elementRoom → Between (ofPair p e) (packPeriod p e 0 0 0) (packPeriod p (e + 1) 0 0 0)
 pair-between p e he =
     record {
       order = unfold packPeriod in omega arith;
@@ -51,7 +52,7 @@ pair-between p e he =
 
 -- ---- a stop
 
-module _ (p e d : ℕ) (he : e < 64) (hd : d < 65536) where
+module _ (p e d : ℕ) (he : e < elementRoom) (hd : d < dayRoom) where
   stop-after : {k : ℕ} {ws : List ℕ} → Run k ws → spot p (e + 1) 0 ≤ k → stopRows p e d ws ≡ ws
   stop-after done h = stop-nil p e d
   stop-after (next {w = w} i j c r) h =

@@ -8,6 +8,7 @@ use native.Mathlib.Omega.{arith}
 use native.Mathlib.Nat.{le-trans, not-suc-le-zero, le-of-suc-le-suc}
 use native.Mathlib.Numerals.{add-one}
 use borrow.Rule.Slice.PartMut.{midOf, putMid, mid-len, post-is}
+use Rattle.rules.specs.Sizes.{places}
 use Rattle.rules.specs.World.{tableOf}
 use Rattle.tables.specs.Order.{ClearBehind}
 use Rattle.tables.specs.Search.{putIn, without, moved, cutBefore, Changed}
@@ -97,14 +98,14 @@ module _ {A : Type 0} where
   take-drop (suc a) (suc n) [] = take-nil (suc n - suc a)
   take-drop (suc a) (suc n) (x ∷ xs) = let e : suc n - suc a ≡ n - a = omega arith in rw e (take-drop a n xs)
 
-zeros-left : (n k : ℕ) → k ≤ n → n ≤ 1024 → k + (1024 - n) ≡ 1024 - (n - k)
+zeros-left : (n k : ℕ) → k ≤ n → n ≤ places → k + (places - n) ≡ places - (n - k)
 zeros-left n k h m = omega arith
 
 sub-low : (n k : ℕ) → n - k ≤ n
 sub-low n k = omega arith
 
 -- a table of n rows: the rows, and zeros
-words-of : (rows : List ℕ) (n : ℕ) → length rows ≡ n → tableOf rows .words ≡ rows ++ replicate (1024 - n) 0
+words-of : (rows : List ℕ) (n : ℕ) → length rows ≡ n → tableOf rows .words ≡ rows ++ replicate (places - n) 0
 unfolding tableOf
 words-of rows n e = rw e
 
@@ -121,26 +122,26 @@ module _ (xs : List ℕ) (n : ℕ) (c : ClearBehind xs n) where
       let l = rows-long in
       let m : i < length (take n xs) = omega arith in
       ap (λ (t : List ℕ). set t i w) (table-is ∙ words-of (take n xs) n l)
-      ∙ set-append-left (take n xs) (replicate (1024 - n) 0) i w m
+      ∙ set-append-left (take n xs) (replicate (places - n) 0) i w m
       ∙ sym (words-of (set (take n xs) i w) n (length-set (take n xs) i w ∙ l))
 
   -- a word put in: what came back of the part that was shifted
-  pub table-put : (at w : ℕ) → at ≤ n → n < 1024
+  pub table-put : (at w : ℕ) → at ≤ n → n < places
       → let lent = midOf at (n + 1 - at) xs in
       putMid at (n + 1 - at) xs (w ∷ take (length lent - 1) lent) ≡ tableOf (putIn at w (take n xs)) .words
   unfolding putIn
   table-put at w h k =
       let l = c .long in
       let e : n + 1 - at - 1 ≡ n - at = omega arith in
-      let z : 1024 - n ≡ suc (1024 - (n + 1)) = omega arith in
+      let z : places - n ≡ suc (places - (n + 1)) = omega arith in
       let front : take at xs ≡ take at (take n xs) = sym (take-take at n xs h) in
       let kept : take (n - at) (take (n + 1 - at) (drop at xs)) ≡ drop at (take n xs)
       = take-take (n - at) (n + 1 - at) (drop at xs) (omega arith) ∙ take-drop at n xs in
-      let behind : drop (n + 1) xs ≡ replicate (1024 - (n + 1)) 0 = sym (drop-drop 1 n xs) ∙ rw (c .clear, z) in
+      let behind : drop (n + 1) xs ≡ replicate (places - (n + 1)) 0 = sym (drop-drop 1 n xs) ∙ rw (c .clear, z) in
       let long : length (take at (take n xs) ++ (w ∷ drop at (take n xs))) ≡ n + 1
       = length-append (take at (take n xs)) (w ∷ drop at (take n xs)) ∙ rw (length-take, length-drop, rows-long) (omega arith) in
       rw (mid-len at (n + 1) xs (omega arith), e, kept, front, post-is at (n + 1) xs (omega arith), behind)
-      (sym (words-of _ (n + 1) long ∙ append-assoc (take at (take n xs)) (w ∷ drop at (take n xs)) (replicate (1024 - (n + 1)) 0)))
+      (sym (words-of _ (n + 1) long ∙ append-assoc (take at (take n xs)) (w ∷ drop at (take n xs)) (replicate (places - (n + 1)) 0)))
 
   -- rows taken out: what came back of the part that was closed up, and of the part that was cleared
   module _ (from to : ℕ) (h : from ≤ to) (k : to ≤ n) where
@@ -165,21 +166,21 @@ module _ (xs : List ℕ) (n : ℕ) (c : ClearBehind xs n) where
         let kept : length (take from rows ++ drop to rows) ≡ n - gap
         = length-append (take from rows) (drop to rows) ∙ rw (front, length-drop, rl) (omega arith) in
         let rest = drop (n - to) (drop from rows) in
-        let is : ys ≡ (take from rows ++ drop to rows) ++ (rest ++ replicate (1024 - n) 0)
+        let is : ys ≡ (take from rows ++ drop to rows) ++ (rest ++ replicate (places - n) 0)
         = e ∙ rw (mid-len from n xs fits, lent, left, drop-drop, there, back, sym (take-take from n xs (omega arith)))
         (rw (post-is from n xs (omega arith), c .clear) (simp append-assoc)) in
         let restl : length rest ≡ gap = rw (length-drop, length-drop, rl) (omega arith) in
-        let long : length ys ≡ 1024 = rw (is, length-append, kept, length-append, restl, length-replicate) (omega arith) in
+        let long : length ys ≡ places = rw (is, length-append, kept, length-append, restl, length-replicate) (omega arith) in
         let all-rows : length ((take from rows ++ drop to rows) ++ rest) ≡ n
         = length-append (take from rows ++ drop to rows) rest ∙ rw (kept, restl) (omega arith) in
-        let behind : drop n ys ≡ replicate (1024 - n) 0
-        = rw is (rw (← append-assoc) (drop-at ((take from rows ++ drop to rows) ++ rest) (replicate (1024 - n) 0) n all-rows)) in
+        let behind : drop n ys ≡ replicate (places - n) 0
+        = rw is (rw (← append-assoc) (drop-at ((take from rows ++ drop to rows) ++ rest) (replicate (places - n) 0) n all-rows)) in
         let width : n - (n - gap) ≡ gap = omega arith in
         let all = zeros-left n gap low m in
-        let zeros : zeroes gap ++ zeroes (1024 - n) ≡ zeroes (1024 - (n - gap))
-        = replicate-append-replicate {A = ℕ} gap (1024 - n) 0 ∙ ap zeroes all in
+        let zeros : zeroes gap ++ zeroes (places - n) ≡ zeroes (places - (n - gap))
+        = replicate-append-replicate {A = ℕ} gap (places - n) 0 ∙ ap zeroes all in
         let first : take (n - gap) ys ≡ take from rows ++ drop to rows
-        = rw is (take-at (take from rows ++ drop to rows) (rest ++ replicate (1024 - n) 0) (n - gap) kept) in
+        = rw is (take-at (take from rows ++ drop to rows) (rest ++ replicate (places - n) 0) (n - gap) kept) in
         rw (mid-len (n - gap) n ys (rw long m), post-is (n - gap) n ys (sub-low n gap), behind, first, width, zeros)
         (sym (words-of (take from rows ++ drop to rows) (n - gap) kept))
 
@@ -196,8 +197,8 @@ module _ (xs : List ℕ) (n : ℕ) (c : ClearBehind xs n) where
       let front : length (take from rows) ≡ from = length-take-le from rows (rw rl (omega arith)) in
       let kept : length (take from rows ++ drop to rows) ≡ n - 1
       = length-append (take from rows) (drop to rows) ∙ rw (front, length-drop, rl) (omega arith) in
-      let z : 1024 - (n - 1) ≡ suc (1024 - n) = omega arith in
-      let is : tableOf (take from rows ++ drop to rows) .words ≡ take from rows ++ (drop to rows ++ (0 ∷ replicate (1024 - n) 0))
+      let z : places - (n - 1) ≡ suc (places - n) = omega arith in
+      let is : tableOf (take from rows ++ drop to rows) .words ≡ take from rows ++ (drop to rows ++ (0 ∷ replicate (places - n) 0))
       = words-of (take from rows ++ drop to rows) (n - 1) kept ∙ rw (z, append-assoc) in
       rw (lent, drop-drop, ← e, sym (take-take from n xs (omega arith)), post-is from n xs (omega arith), c .clear, is)
       (simp append-assoc)

@@ -11,6 +11,7 @@ use lib.Seq.{getD-take, length-take-le}
 use native.Mathlib.Omega.{arith}
 use native.Mathlib.Nat.{le-refl, le-of-suc-le-suc, not-suc-le-zero}
 use borrow.Author.Tests.{ltb-true, eqb-true}
+use Rattle.rules.specs.Sizes.{endOfDays, holderSize, mostQuantity, places, stateSize}
 use Rattle.rules.specs.declared.Book.{Book}
 use Rattle.rules.specs.Basics.{within, chained, allIn}
 use Rattle.rules.specs.Rows.{periodPoint, periodElement, periodFirst, periodEnd, periodQuantity}
@@ -122,7 +123,7 @@ pub period-parts : (o : Opening) (r : ℕ) → periodRight o r
     && kindAllows (kindOf o (periodElement r)) (periodFirst r) (periodEnd r) (periodQuantity r))))
 unfolding periodRight daysRight kindAllows
 period-parts o r = ap (λ (t : Bool). ltb (periodPoint r) (o .points) && (ltb (periodElement r) (o .elements) && t))
-    (regroup (ltb (periodFirst r) (periodEnd r)) (leb (periodEnd r) 36525) (within 1 999 (periodQuantity r)) _)
+    (regroup (ltb (periodFirst r) (periodEnd r)) (leb (periodEnd r) endOfDays) (within 1 mostQuantity (periodQuantity r)) _)
 
 -- ---- what is not looked at
 
@@ -146,7 +147,7 @@ unfolding allIn isZero
 zeros-are [] h = refl
 zeros-are (x ∷ xs) h = let k = both (eqb x 0) _ h in let e = zeros-are xs (k .1) in rw (eqb-true x 0 (k .0)) (ap (λ (l : List ℕ). 0 ∷ l) e)
 
-module _ (xs : List ℕ) (n : ℕ) (l : length xs ≡ 1024) (k : n ≤ 1024) where
+module _ (xs : List ℕ) (n : ℕ) (l : length xs ≡ places) (k : n ≤ places) where
   right-clear : (order : ℕ → ℕ → Bool) (right : ℕ → Bool) → tableRight order right (record { used = n; words = xs }) ≡ true
       → ClearBehind xs n
   unfolding tableRight isZero
@@ -174,7 +175,7 @@ module _ (size : ℕ) where
   chained-rising [] c = nil
   chained-rising (r ∷ rs) c = rising-lower (λ w. w / size) {j = 0} {k = r / size} zero-le (earlier-rising r rs c)
 
-module _ (xs : List ℕ) (n : ℕ) (l : length xs ≡ 1024) (k : n ≤ 1024) (o : Opening) where
+module _ (xs : List ℕ) (n : ℕ) (l : length xs ≡ places) (k : n ≤ places) (o : Opening) where
   value-rows : (size : ℕ) (right : ℕ → Bool) → tableRight (earlier size) right (record { used = n; words = xs }) ≡ true
       → ValueRows size xs n
   value-rows size right h =
@@ -182,21 +183,21 @@ module _ (xs : List ℕ) (n : ℕ) (l : length xs ≡ 1024) (k : n ≤ 1024) (o 
       = unfold rowsOf in table-ordered (earlier size) right (record { used = n; words = xs }) h in
       record { fits = rw l k; order = chained-rising size (take n xs) ordered }
 
-  pub holders-rows : holdersRight o (record { used = n; words = xs }) ≡ true → ValueRows 32 xs n
+  pub holders-rows : holdersRight o (record { used = n; words = xs }) ≡ true → ValueRows holderSize xs n
   unfolding holdersRight
-  holders-rows h = value-rows 32 (valueRight 32 0 (o .suppliers) o) h
+  holders-rows h = value-rows holderSize (valueRight holderSize 0 (o .suppliers) o) h
 
   pub holders-clear : holdersRight o (record { used = n; words = xs }) ≡ true → ClearBehind xs n
   unfolding holdersRight
-  holders-clear h = right-clear xs n l k (earlier 32) (valueRight 32 0 (o .suppliers) o) h
+  holders-clear h = right-clear xs n l k (earlier holderSize) (valueRight holderSize 0 (o .suppliers) o) h
 
-  pub states-rows : statesRight o (record { used = n; words = xs }) ≡ true → ValueRows 8 xs n
+  pub states-rows : statesRight o (record { used = n; words = xs }) ≡ true → ValueRows stateSize xs n
   unfolding statesRight
-  states-rows h = value-rows 8 (valueRight 8 1 4 o) h
+  states-rows h = value-rows stateSize (valueRight stateSize 1 4 o) h
 
   pub states-clear : statesRight o (record { used = n; words = xs }) ≡ true → ClearBehind xs n
   unfolding statesRight
-  states-clear h = right-clear xs n l k (earlier 8) (valueRight 8 1 4 o) h
+  states-clear h = right-clear xs n l k (earlier stateSize) (valueRight stateSize 1 4 o) h
 
 -- ---- what a whole book gives: its tables can be searched and written
 

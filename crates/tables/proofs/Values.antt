@@ -10,6 +10,7 @@ use lib.Seq.{getD-take, length-take-le}
 use native.Mathlib.Omega.{arith}
 use native.Mathlib.Nat.{le-refl, le-trans, le-of-suc-le-suc, not-suc-le-zero, le-mul-of-pos-right, mul-le-mul-right, suc-mul, le-div-iff-mul-le, div-lt-iff-lt-mul}
 use borrow.Author.Tests.{lt-ltb, ltb-true, ltb-false, eqb-true, eq-eqb, ne-eqb}
+use Rattle.rules.specs.Sizes.{dayRoom, endOfDays}
 use Rattle.rules.specs.Basics.{latest, orElse}
 use Rattle.rules.specs.Rows.{packValue, valuePoint, valueFirst, valueOf, recordedOn, recordRow}
 use Rattle.rules.proofs.Tests.{tests, cases, both}
@@ -24,56 +25,56 @@ use Rattle.tables.proofs.Order.{rising-from, rising-le, below-at, above
 
 -- the words of a point fit 64 bits
 module _ {size p : ℕ} (f : PointFits size p) where
-  pub point-small : (p + 1) * 65536 ≤ 18446744073709551615
-  point-small = le-trans (le-mul-of-pos-right ((p + 1) * 65536) (f .some)) (f .point)
+  pub point-small : (p + 1) * dayRoom ≤ 18446744073709551615
+  point-small = le-trans (le-mul-of-pos-right ((p + 1) * dayRoom) (f .some)) (f .point)
 
-  pub word-small : {a v : ℕ} → a < 65536 → v < size → (p * 65536 + a) * size + v < 18446744073709551616
+  pub word-small : {a v : ℕ} → a < dayRoom → v < size → (p * dayRoom + a) * size + v < 18446744073709551616
   word-small {a} {v} ha hv =
-      let h : suc (p * 65536 + a) * size ≤ (p + 1) * 65536 * size = mul-le-mul-right size (omega arith) in
-      let e = suc-mul (p * 65536 + a) size in
+      let h : suc (p * dayRoom + a) * size ≤ (p + 1) * dayRoom * size = mul-le-mul-right size (omega arith) in
+      let e = suc-mul (p * dayRoom + a) size in
       let k = f .point in
       omega arith
 
 module _ (size : ℕ) where
   -- a row's point and day as one number
-  pub key-parts : (w : ℕ) → (w / size ≡ valuePoint size w * 65536 + valueFirst size w) × (valueFirst size w < 65536)
+  pub key-parts : (w : ℕ) → (w / size ≡ valuePoint size w * dayRoom + valueFirst size w) × (valueFirst size w < dayRoom)
   unfolding valuePoint valueFirst
   key-parts w = (omega arith, omega arith)
 
-  pub dated-key : (p d w : ℕ) → dated size p d w ≡ true → w / size ≡ p * 65536 + d
+  pub dated-key : (p d w : ℕ) → dated size p d w ≡ true → w / size ≡ p * dayRoom + d
   dated-key p d w h = let k = both (eqb (valuePoint size w) p) (eqb (valueFirst size w) d) h in let m = key-parts w in omega (arith, tests)
 
-  pub not-dated : (p d w : ℕ) → (w / size ≡ p * 65536 + d → ⊥) → dated size p d w ≡ false
+  pub not-dated : (p d w : ℕ) → (w / size ≡ p * dayRoom + d → ⊥) → dated size p d w ≡ false
   not-dated p d w h = cases (dated size p d w) (λ t. absurd (h (dated-key p d w t))) (λ t. t)
 
   module _ (pos : 0 < size) where
-    below-value : (p d w : ℕ) → w < packValue size p d 0 → w / size < p * 65536 + d
+    below-value : (p d w : ℕ) → w < packValue size p d 0 → w / size < p * dayRoom + d
     unfolding packValue
-    below-value p d w h = div-lt-iff-lt-mul {k = size} {x = w} {y = p * 65536 + d} pos .1 (omega arith)
+    below-value p d w h = div-lt-iff-lt-mul {k = size} {x = w} {y = p * dayRoom + d} pos .1 (omega arith)
 
-    from-value : (p d w : ℕ) → packValue size p d 0 ≤ w → p * 65536 + d ≤ w / size
+    from-value : (p d w : ℕ) → packValue size p d 0 ≤ w → p * dayRoom + d ≤ w / size
     unfolding packValue
-    from-value p d w h = le-div-iff-mul-le {k = size} {x = p * 65536 + d} {y = w} pos .1 (omega arith)
+    from-value p d w h = le-div-iff-mul-le {k = size} {x = p * dayRoom + d} {y = w} pos .1 (omega arith)
 
 -- no row is the word above every row
 past-all : (size p : ℕ) → PointFits size p → eqb (valuePoint size 18446744073709551615) p ≡ false
 past-all size p f =
-    let k : (p + 1) * 65536 ≤ 18446744073709551615 / size
-    = le-div-iff-mul-le {k = size} {x = (p + 1) * 65536} {y = 18446744073709551615} (f .some) .1 (f .point) in
+    let k : (p + 1) * dayRoom ≤ 18446744073709551615 / size
+    = le-div-iff-mul-le {k = size} {x = (p + 1) * dayRoom} {y = 18446744073709551615} (f .some) .1 (f .point) in
     let m = key-parts size 18446744073709551615 in
     omega (arith, tests)
 
 -- ---- the next recorded day
 
 module _ (size p d : ℕ) where
-  next-high : (ws : List ℕ) → nextRecorded size ws p d ≤ 36525
+  next-high : (ws : List ℕ) → nextRecorded size ws p d ≤ endOfDays
   unfolding nextRecorded
   next-high [] = le-refl _
   next-high (w ∷ ws) = let h = next-high ws in cases (eqb (valuePoint size w) p && ltb d (valueFirst size w))
       (λ t. rw t (omega arith))
       (λ t. rw t h)
 
-  next-low : (f : ℕ) {k : ℕ} {ws : List ℕ} → Rising (λ w. w / size) k ws → p * 65536 + f ≤ k → min f 36525 ≤ nextRecorded size ws p d
+  next-low : (f : ℕ) {k : ℕ} {ws : List ℕ} → Rising (λ w. w / size) k ws → p * dayRoom + f ≤ k → min f endOfDays ≤ nextRecorded size ws p d
   unfolding nextRecorded
   next-low f nil h = omega arith
   next-low f (row {w = w} i m) h = let ih = next-low f m (omega arith) in
@@ -86,7 +87,7 @@ module _ (size p d : ℕ) where
 
   next-from : PointFits size p → {k : ℕ} {ws : List ℕ} → Rising (λ w. w / size) k ws
       → let r = rowFrom (packValue size p (d + 1) 0) ws in
-      nextRecorded size ws p d ≡ cond (eqb (valuePoint size r) p) (min (valueFirst size r) 36525) 36525
+      nextRecorded size ws p d ≡ cond (eqb (valuePoint size r) p) (min (valueFirst size r) endOfDays) endOfDays
   unfolding nextRecorded rowFrom
   next-from f nil = rw (past-all size p f)
   next-from f (row {w = w} {ws = ws} i m) = let k = key-parts size w in cases (ltb w (packValue size p (d + 1) 0))
@@ -101,19 +102,19 @@ module _ (size p d : ℕ) where
       (λ u. let z : ltb d (valueFirst size w) ≡ true = omega (arith, tests) in
       let low = next-low (valueFirst size w) m (omega (arith, tests)) in
       rw (t, u, z) (omega arith))
-      (λ u. let low = next-low 65536 m (omega (arith, tests)) in
+      (λ u. let low = next-low dayRoom m (omega (arith, tests)) in
       rw (t, u) (omega arith)))
 
   -- the row that the search found tells it
   pub next-found : PointFits size p → {xs : List ℕ} {n : ℕ} → ValueRows size xs n
       → (r : ℕ) → r ≡ rowFrom (packValue size p (d + 1) 0) (take n xs)
-      → nextRecorded size (take n xs) p d ≡ cond (eqb (valuePoint size r) p) (min (valueFirst size r) 36525) 36525
+      → nextRecorded size (take n xs) p d ≡ cond (eqb (valuePoint size r) p) (min (valueFirst size r) endOfDays) endOfDays
   next-found f v r e = rw e (next-from f (v .order))
 
 -- ---- a value recorded that very day
 
 module _ (size p d : ℕ) where
-  pub recorded-later : {k : ℕ} {ws : List ℕ} → Rising (λ w. w / size) k ws → p * 65536 + d < k → recordedOn size ws p d ≡ none
+  pub recorded-later : {k : ℕ} {ws : List ℕ} → Rising (λ w. w / size) k ws → p * dayRoom + d < k → recordedOn size ws p d ≡ none
   recorded-later nil h = recorded-nil size p d
   recorded-later (row {w = w} i m) h = rw (recorded-cons, not-dated size p d w (λ e. omega arith)) (recorded-later m (omega arith))
 
@@ -153,7 +154,8 @@ module _ (f : ℕ → Option ℕ) where
       (λ t. rw (h (suc d) (omega (arith, tests)) (le-refl _)) (latest-at a v d (omega (arith, tests)) e (λ i k m. h i k (omega arith))))
 
 module _ (size p : ℕ) where
-  recorded-none : (d : ℕ) (ws : List ℕ) → ((i : ℕ) → i < length ws → getD ws i 0 / size ≡ p * 65536 + d → ⊥) → recordedOn size ws p d ≡ none
+  recorded-none : (d : ℕ) (ws : List ℕ) → ((i : ℕ) → i < length ws → getD ws i 0 / size ≡ p * dayRoom + d → ⊥)
+      → recordedOn size ws p d ≡ none
   recorded-none d [] h = recorded-nil size p d
   recorded-none d (w ∷ ws) h =
       rw (recorded-cons, not-dated size p d w (h 0 (omega arith))) (recorded-none d ws (λ i l. h (suc i) (suc-le-suc l)))
@@ -167,8 +169,8 @@ module _ (size p : ℕ) where
       let k = key-parts size (getD ws j 0) in
       rw (recorded-cons, not-dated size p (valueFirst size (getD ws j 0)) w (λ z. omega arith)) (recorded-at m j (le-of-suc-le-suc l) e)
 
-  module _ (f : PointFits size p) (d : ℕ) (hd : d < 65536) {ws : List ℕ} (m : Rising (λ w. w / size) 0 ws) where
-    later : (i : ℕ) → rowsBelow (packValue size p (d + 1) 0) ws ≤ i → i < length ws → p * 65536 + d < getD ws i 0 / size
+  module _ (f : PointFits size p) (d : ℕ) (hd : d < dayRoom) {ws : List ℕ} (m : Rising (λ w. w / size) 0 ws) where
+    later : (i : ℕ) → rowsBelow (packValue size p (d + 1) 0) ws ≤ i → i < length ws → p * dayRoom + d < getD ws i 0 / size
     later i h l =
         let z = from-value size (f .some) p (d + 1) (getD ws i 0) (above-at _ (values-rising size (f .some) m) i h l) in
         omega arith
@@ -196,7 +198,7 @@ module _ (size p : ℕ) where
         (λ u. let y = later n (omega (arith, tests)) o in omega arith)))))
 
   -- what the search finds of a table
-  module _ (f : PointFits size p) (d : ℕ) (hd : d < 65536) {xs : List ℕ} {n at : ℕ} (rows : ValueRows size xs n)
+  module _ (f : PointFits size p) (d : ℕ) (hd : d < dayRoom) {xs : List ℕ} {n at : ℕ} (rows : ValueRows size xs n)
       (found : RowPlace xs n (packValue size p (d + 1) 0) at) where
     pub value-missed : at ≡ 0 → latest (recordedOn size (take n xs) p) d ≡ 0
     value-missed z = value-none f d hd (rows .order) (sym (found .is) ∙ z)

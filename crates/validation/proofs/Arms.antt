@@ -6,6 +6,7 @@ use mathlib.Core.Option.{none}
 use Prim.Native.Nat.{ℕ}
 use lib.Dec.{leb, ltb, eqb}
 use borrow.Author.Tests.{ne-eqb}
+use Rattle.rules.specs.Sizes.{hourPlaces, mostEnergy}
 use Rattle.rules.specs.declared.Fields.{Fields}
 use Rattle.rules.specs.declared.Sender.{Sender}
 use Rattle.rules.specs.declared.Body.{Body}
@@ -49,7 +50,7 @@ module _ (n : ℕ) (f : Fields) where
   unfolding bodyOf
   kind-5 k = rw k
 
-  pub kind-6 : f .kind ≡ 6 → bodyOf n f ≡ when (isDay (f .day) && (eqb (f .element) 0 && (ltb (f .hour) 24 && leb (f .value) 9999999))) (Body.Reading (f .point) (f .day) (f .hour) (f .value))
+  pub kind-6 : f .kind ≡ 6 → bodyOf n f ≡ when (isDay (f .day) && (eqb (f .element) 0 && (ltb (f .hour) hourPlaces && leb (f .value) mostEnergy))) (Body.Reading (f .point) (f .day) (f .hour) (f .value))
   unfolding bodyOf
   kind-6 k = rw k
 

@@ -8,6 +8,7 @@ use lib.Dec.{leb, ltb, eqb}
 use lib.ListN.{length, getD}
 use borrow.Author.Tests.{eqb-true, leb-true}
 use native.Mathlib.Omega.{arith}
+use Rattle.rules.specs.Sizes.{endOfDays}
 use Rattle.rules.specs.Basics.{anyTo, allIn, keep}
 use Rattle.rules.specs.Rows.{periodFirst, periodEnd, ofPair, covers, quantityOn, pairRows}
 use Rattle.rules.specs.World.{Tables, rowsOf, linkedOn}
@@ -62,15 +63,16 @@ unfolding anyTo
 any-or f g zero = refl
 any-or f g (suc n) = rw (any-or f g n) (or-swap (f n) (g n) (anyTo f n) (anyTo g n))
 
-ends-cons : (w : ℕ) (ws : List ℕ) → allIn endsInTime (w ∷ ws) ≡ true → (periodEnd w ≤ 36525) × (allIn endsInTime ws ≡ true)
+ends-cons : (w : ℕ) (ws : List ℕ) → allIn endsInTime (w ∷ ws) ≡ true → (periodEnd w ≤ endOfDays) × (allIn endsInTime ws ≡ true)
 unfolding allIn endsInTime
-ends-cons w ws h = let k = both (leb (periodEnd w) 36525) (allIn endsInTime ws) h in (leb-true _ _ (k .0), k .1)
+ends-cons w ws h = let k = both (leb (periodEnd w) endOfDays) (allIn endsInTime ws) h in (leb-true _ _ (k .0), k .1)
 
 -- ---- the rows of the pair, by a test that says of each row whether it covers one of n days
 
 module _ (p e : ℕ) (day : ℕ → ℕ) (n : ℕ) (test : ℕ → Bool)
-    (says : (w : ℕ) → periodFirst w < periodEnd w → periodEnd w ≤ 36525 → anyTo (λ i. leb (periodFirst w) (day i) && ltb (day i) (periodEnd w)) n ≡ test w) where
-  row-linked : (w : ℕ) → periodFirst w < periodEnd w → periodEnd w ≤ 36525 → anyTo (λ i. covers p e (day i) w) n ≡ (ofPair p e w && test w)
+    (says : (w : ℕ) → periodFirst w < periodEnd w → periodEnd w ≤ endOfDays → anyTo (λ i. leb (periodFirst w) (day i) && ltb (day i) (periodEnd w)) n ≡ test w) where
+  row-linked : (w : ℕ) → periodFirst w < periodEnd w → periodEnd w ≤ endOfDays
+      → anyTo (λ i. covers p e (day i) w) n ≡ (ofPair p e w && test w)
   row-linked w h k =
       any-cong _ (λ i. ofPair p e w && (leb (periodFirst w) (day i) && ltb (day i) (periodEnd w))) n (λ i. covers-is p e (day i) w)
       ∙ cases (ofPair p e w)
@@ -94,11 +96,11 @@ module _ (a b d : ℕ) (h : a < b) where
       rw t (any-true (λ i. leb a i && ltb i b) d a (omega (arith, tests)) (rw (x, y))))
       (λ t. rw t (any-false (λ i. leb a i && ltb i b) d (λ i k. let x : leb a i ≡ false = omega (arith, tests) in rw x)))
 
-  after-says : b ≤ 36525 → anyTo (λ i. leb a (d + i) && ltb (d + i) b) (36525 - d) ≡ ltb d b
+  after-says : b ≤ endOfDays → anyTo (λ i. leb a (d + i) && ltb (d + i) b) (endOfDays - d) ≡ ltb d b
   after-says k = cases (ltb d b)
       (λ t. let x : leb a (d + (a - d)) ≡ true = omega (arith, tests) in let y : ltb (d + (a - d)) b ≡ true = omega (arith, tests) in
-      rw t (any-true (λ i. leb a (d + i) && ltb (d + i) b) (36525 - d) (a - d) (omega (arith, tests)) (rw (x, y))))
-      (λ t. rw t (any-false (λ i. leb a (d + i) && ltb (d + i) b) (36525 - d)
+      rw t (any-true (λ i. leb a (d + i) && ltb (d + i) b) (endOfDays - d) (a - d) (omega (arith, tests)) (rw (x, y))))
+      (λ t. rw t (any-false (λ i. leb a (d + i) && ltb (d + i) b) (endOfDays - d)
       (λ i l. let y : ltb (d + i) b ≡ false = omega (arith, tests) in cases (leb a (d + i)) (λ u. rw (u, y)) (λ u. rw u))))
 
 -- a stop has a day before it and a day from it on where a row starts before it and a row ends after it
@@ -110,9 +112,9 @@ some-rows t p e d r h =
     let x : anyTo (λ i. not (eqb (quantityOn ws p e i) 0)) d ≡ anyIn (startsBefore d) (pairRows p e ws)
     = any-cong _ (linkedIn ws p e) d (λ i. linked-quantity p e i r)
     ∙ some-linked p e (λ i. i) d (startsBefore d) (λ w k l. unfold startsBefore in before-says (periodFirst w) (periodEnd w) d k) r h in
-    let y : anyTo (λ i. not (eqb (quantityOn ws p e (d + i)) 0)) (36525 - d) ≡ anyIn (endsAfter d) (pairRows p e ws)
-    = any-cong _ (λ i. linkedIn ws p e (d + i)) (36525 - d) (λ i. linked-quantity p e (d + i) r)
-    ∙ some-linked p e (λ i. d + i) (36525 - d) (endsAfter d) (λ w k l. unfold endsAfter in after-says (periodFirst w) (periodEnd w) d k l) r h in
+    let y : anyTo (λ i. not (eqb (quantityOn ws p e (d + i)) 0)) (endOfDays - d) ≡ anyIn (endsAfter d) (pairRows p e ws)
+    = any-cong _ (λ i. linkedIn ws p e (d + i)) (endOfDays - d) (λ i. linked-quantity p e (d + i) r)
+    ∙ some-linked p e (λ i. d + i) (endOfDays - d) (endsAfter d) (λ w k l. unfold endsAfter in after-says (periodFirst w) (periodEnd w) d k l) r h in
     rw (x, y)
 
 -- ---- rows of one pair in order: the first starts first, and the last ends last

@@ -6,6 +6,7 @@ use mathlib.Core.List.{List, [], _∷_}
 use mathlib.Core.Option.{Option, none, some}
 use borrow.Author.Tests.{le-leb, ltb-true}
 use native.Mathlib.Omega.{arith}
+use Rattle.rules.specs.Sizes.{endOfDays}
 use Rattle.rules.specs.declared.Book.{Book}
 use Rattle.rules.specs.declared.Fields.{Fields}
 use Rattle.rules.specs.Lent.{Lists, worldIn, openingIn, tablesIn}
@@ -30,7 +31,7 @@ unfolding allIn endsInTime
 ends-all o [] h = refl
 ends-all o (r ∷ rs) h =
     let k = both (periodRight o r) (allIn (periodRight o) rs) h in
-    rw (le-leb (periodEnd r) 36525 (right-of o r (k .0) .last), ends-all o rs (k .1))
+    rw (le-leb (periodEnd r) endOfDays (right-of o r (k .0) .last), ends-all o rs (k .1))
 
 pub whole-readable : (b : Book) (o : Lists) → Whole (worldIn b o)
     → Readable b (o .elementData) (o .links) (o .holders) (o .states) (o .blocks)

@@ -2,7 +2,9 @@
 use Prim.Native.Nat.{_*_, _≤_}
 use native.Mathlib.Nat.{mul-le-mul}
 use native.Mathlib.Omega.{arith}
+use Rattle.calendar.specs.Gregorian.{longestMonth}
 use Rattle.calendar.proofs.MonthLaws.{days-range}
+use Rattle.rules.specs.Sizes.{mostPoints}
 use Rattle.rules.specs.World.{readingAt, monthFirst, monthDays}
 use borrow.Author.Needs.{needs}
 use Rattle.facts.proofs.reading_place.Statement.{statement}
@@ -14,12 +16,12 @@ first-day-requires c κs = search needs
 days-in-month-requires : tie.Need-days-in-month-requires
 days-in-month-requires c κs = search needs
 
-product : (c : tie.After-days-in-month) → c .before .before .args .point * c .days-in-month .result ≤ 256 * 31
+product : (c : tie.After-days-in-month) → c .before .before .args .point * c .days-in-month .result ≤ mostPoints * longestMonth
 product c =
     let start : tie.Start = search in
     let days = days-range (start .args .book .year) (start .args .book .month) in
-    let p : start .args .point ≤ 256 = omega arith in
-    let q : c .days-in-month .result ≤ 31 = rw (c .days-in-month .ensures) (days .1) in
+    let p : start .args .point ≤ mostPoints = omega arith in
+    let q : c .days-in-month .result ≤ longestMonth = rw (c .days-in-month .ensures) (days .1) in
     mul-le-mul p q
 
 mul-day-place : tie.Need-mul-day-place

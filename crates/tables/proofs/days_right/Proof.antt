@@ -3,6 +3,7 @@ use mathlib.Core.Path.{_≡_}
 use mathlib.Core.Bool.{true, false}
 use lib.Dec.{leb, ltb}
 use native.Mathlib.Omega.{arith}
+use Rattle.rules.specs.Sizes.{endOfDays}
 use Rattle.rules.proofs.Tests.{tests}
 use Rattle.rules.specs.Basics.{within}
 use Rattle.tables.specs.Tests.{daysRight}
@@ -18,7 +19,7 @@ unfolding daysRight
 returns-2 c =
     let a = c .before .before .args in
     let h : ltb (a .first) (a .end) ≡ true = omega (arith, tests) in
-    let k : leb (a .end) 36525 ≡ false = omega (arith, tests) in
+    let k : leb (a .end) endOfDays ≡ false = omega (arith, tests) in
     rw (h, k)
 
 returns-3 : tie.Need-returns-3
@@ -27,7 +28,7 @@ returns-3 c =
     let start : tie.Start = search in
     let a = start .args in
     let h : ltb (a .first) (a .end) ≡ true = omega (arith, tests) in
-    let k : leb (a .end) 36525 ≡ true = omega (arith, tests) in
+    let k : leb (a .end) endOfDays ≡ true = omega (arith, tests) in
     let m : leb 1 (a .quantity) ≡ false = omega (arith, tests) in
     rw (h, k, m)
 
@@ -37,7 +38,7 @@ returns-4 c =
     let start : tie.Start = search in
     let a = start .args in
     let h : ltb (a .first) (a .end) ≡ true = omega (arith, tests) in
-    let k : leb (a .end) 36525 ≡ true = omega (arith, tests) in
+    let k : leb (a .end) endOfDays ≡ true = omega (arith, tests) in
     let m : leb 1 (a .quantity) ≡ true = omega (arith, tests) in
     rw (h, k, m)
 

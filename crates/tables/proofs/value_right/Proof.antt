@@ -4,6 +4,7 @@ use mathlib.Core.Bool.{true, false}
 use lib.Dec.{leb, ltb}
 use native.Mathlib.Omega.{arith}
 use borrow.Author.Needs.{needs}
+use Rattle.rules.specs.Sizes.{endOfDays}
 use Rattle.rules.proofs.Tests.{tests}
 use Rattle.rules.specs.Rows.{valuePoint, valueFirst, valueOf}
 use Rattle.rules.specs.Basics.{within}
@@ -34,7 +35,7 @@ returns-2 c =
     let start : tie.Start = search in
     let a = start .args in
     let p : ltb (valuePoint (a .size) (a .word)) (a .book .points) ≡ true = omega (arith, tests) in
-    let f : ltb (valueFirst (a .size) (a .word)) 36525 ≡ false = omega (arith, tests) in
+    let f : ltb (valueFirst (a .size) (a .word)) endOfDays ≡ false = omega (arith, tests) in
     rw (p, f)
 
 returns-3 : tie.Need-returns-3
@@ -43,7 +44,7 @@ returns-3 c =
     let start : tie.Start = search in
     let a = start .args in
     let p : ltb (valuePoint (a .size) (a .word)) (a .book .points) ≡ true = omega (arith, tests) in
-    let f : ltb (valueFirst (a .size) (a .word)) 36525 ≡ true = omega (arith, tests) in
+    let f : ltb (valueFirst (a .size) (a .word)) endOfDays ≡ true = omega (arith, tests) in
     let l : leb (a .low) (valueOf (a .size) (a .word)) ≡ false = omega (arith, tests) in
     rw (p, f, l)
 
@@ -53,7 +54,7 @@ returns-4 c =
     let start : tie.Start = search in
     let a = start .args in
     let p : ltb (valuePoint (a .size) (a .word)) (a .book .points) ≡ true = omega (arith, tests) in
-    let f : ltb (valueFirst (a .size) (a .word)) 36525 ≡ true = omega (arith, tests) in
+    let f : ltb (valueFirst (a .size) (a .word)) endOfDays ≡ true = omega (arith, tests) in
     let l : leb (a .low) (valueOf (a .size) (a .word)) ≡ true = omega (arith, tests) in
     let after-value-of : tie.After-value-of = search in
     rw (p, f, l, after-value-of .value-of .ensures)

@@ -3,6 +3,7 @@
 use Prim.Native.Nat.{_≤_, _-_}
 use mathlib.Core.Path.{_≡_, refl, ap, _∙_}
 use lib.ListN.{length, take, drop, length-set}
+use Rattle.rules.specs.Sizes.{pricePlaces}
 use Rattle.rules.specs.Basics.{listTo}
 use Rattle.file.specs.Element.{priceAt, pricesOf}
 use Rattle.file.specs.Bytes.{placed}
@@ -17,10 +18,10 @@ use Rattle.file.proofs.fields.put_prices.Tie as tie
 
 abbrev Inv-loop : tie.InvT-loop
 Inv-loop prices₀ place s at size k₀ prices k =
-    (k ≤ 24) × (length prices ≡ length prices₀) × (prices ≡ placed prices₀ place (listTo (priceAt (take size (drop at s))) k))
+    (k ≤ pricePlaces) × (length prices ≡ length prices₀) × (prices ≡ placed prices₀ place (listTo (priceAt (take size (drop at s))) k))
 
 abbrev μ-loop : tie.MeasureT-loop
-μ-loop prices₀ place s at size k₀ prices k = 24 - k
+μ-loop prices₀ place s at size k₀ prices k = pricePlaces - k
 
 loop-holds : tie.Need-loop-holds Inv-loop μ-loop
 unfolding listTo
@@ -66,7 +67,7 @@ returns c =
     let start : tie.Start Inv-loop μ-loop = search in
     let a = start .args in
     let l = c .before .loop in
-    let e : l .k ≡ 24 = omega arith in
+    let e : l .k ≡ pricePlaces = omega arith in
     l .inv .2 ∙ ap (λ k. placed (a .prices .now) (a .place) (listTo (priceAt (take (a .size) (drop (a .at) (a .s .now)))) k)) e
 
 pub put-prices-spec : {M : Type 1} → statement M

@@ -1,5 +1,6 @@
 -- `read_element` meets its contract: the first three bytes of the value are three bytes of the slice, and the prices are those of the
 -- value.
+use Rattle.rules.specs.Sizes.{elementSize}
 use Rattle.file.specs.Element.{elementBytes, elementPrices}
 use native.Mathlib.Nat.{add-sub-cancel-left}
 use lib.Seq.{take-take}
@@ -48,8 +49,9 @@ returns c =
     let described : tie.After-put-bytes = search in
     let a = start .args in
     let value = drop (a .at) (a .s .now) in
-    let first = ap (λ k. take k value) (add-sub-cancel-left (a .at) 3) ∙ sym (take-take 3 (a .size) value (start .pre .head)) in (
-      described .put-bytes .ensures .is ∙ ap (λ t. placed (a .element-data .now) (a .e * 3) t) first,
+    let first = ap (λ k. take k value) (add-sub-cancel-left (a .at) elementSize)
+    ∙ sym (take-take elementSize (a .size) value (start .pre .head)) in (
+      described .put-bytes .ensures .is ∙ ap (λ t. placed (a .element-data .now) (a .e * elementSize) t) first,
       c .before .put-prices .ensures,
     )
 

@@ -2,6 +2,7 @@
 use mathlib.Core.Path.{_≡_, sym}
 use Prim.Native.Nat.{_-_, _*_, _≤_}
 use Rattle.ledger.specs.Moved.{unmovedAt, movedCount}
+use Rattle.rules.specs.Sizes.{lineSize, mostLines}
 use Rattle.rules.proofs.Parts.{few-lines}
 use Rattle.ledger.proofs.RoundLaws.{sendable, count-none, count-few, count-more, zero-or-one}
 use native.Mathlib.Omega.{arith}
@@ -16,7 +17,7 @@ abbrev μ-loop : tie.MeasureT-loop
 μ-loop lines sent count n₀ k₀ n k = count - k
 
 -- a book has few lines
-few : (s : tie.Start Inv-loop μ-loop) → s .args .book .suppliers * s .args .book .elements ≤ 1024
+few : (s : tie.Start Inv-loop μ-loop) → s .args .book .suppliers * s .args .book .elements ≤ mostLines
 few s = few-lines (s .args .book .suppliers) (s .args .book .elements) (s .pre .suppliers) (s .pre .elements)
 
 mul-count : tie.Need-mul-count Inv-loop μ-loop
@@ -40,7 +41,7 @@ add-n c =
     let turn : tie.At-loop Inv-loop μ-loop = search in
     let e = turn .loop .inv .1 in
     let m = count-few (start .args .lines .now) (start .args .sent .now) (turn .loop .k) in
-    let o = zero-or-one (unmovedAt (start .args .lines .now) (start .args .sent .now) (turn .loop .k * 3)) (c .moved-one .result) (c .moved-one .ensures) in
+    let o = zero-or-one (unmovedAt (start .args .lines .now) (start .args .sent .now) (turn .loop .k * lineSize)) (c .moved-one .result) (c .moved-one .ensures) in
     record { fits = omega arith }
 
 add-k : tie.Need-add-k Inv-loop μ-loop

@@ -5,6 +5,7 @@ use lib.Seq.{paste, paste-zero}
 use Rattle.ledger.specs.Moved.{linesIn, lineRecords, movedCount}
 use Rattle.ledger.specs.RecordNumbers.{numbersAfter}
 use Rattle.ledger.proofs.RecordNumbers.{numbers-none}
+use Rattle.rules.specs.Sizes.{lineSize, mostLines}
 use Rattle.rules.proofs.Parts.{few-lines}
 use Rattle.ledger.proofs.RoundLaws.{count-none, count-few, records-none, length-copied, copied-whole, list-long, turn-sendable, turn-room, turn-done}
 use native.Mathlib.Omega.{arith}
@@ -14,14 +15,14 @@ use Rattle.ledger.proofs.rounds.send_lines.Tie as tie
 
 abbrev Inv-loop : tie.InvT-loop
 Inv-loop book lines sent₀ records₀ count n₀ k₀ sent records n k =
-    (k ≤ count) × (sent ≡ paste sent₀ 0 lines (k * 3)) × (n ≡ movedCount lines sent₀ k)
+    (k ≤ count) × (sent ≡ paste sent₀ 0 lines (k * lineSize)) × (n ≡ movedCount lines sent₀ k)
     × (records ≡ numbersAfter (lineRecords book lines sent₀ k) records₀)
 
 abbrev μ-loop : tie.MeasureT-loop
 μ-loop book lines sent₀ records₀ count n₀ k₀ sent records n k = count - k
 
 -- a book has few lines
-few : (s : tie.Start Inv-loop μ-loop) → s .args .book .suppliers * s .args .book .elements ≤ 1024
+few : (s : tie.Start Inv-loop μ-loop) → s .args .book .suppliers * s .args .book .elements ≤ mostLines
 few s = few-lines (s .args .book .suppliers) (s .args .book .elements) (s .pre .0 .suppliers) (s .pre .0 .elements)
 
 mul-count : tie.Need-mul-count Inv-loop μ-loop
@@ -45,7 +46,7 @@ send-line-requires c κs =
     let m = count-few (a .lines .now) (a .sent .now) (l .k) in
     let f = few start in
     let e = l .inv .2 in
-    let n : l .n ≤ 1024 = omega arith in
+    let n : l .n ≤ mostLines = omega arith in
     let s = turn-sendable (a .book) (a .lines .now) (a .sent .now) (a .records .now) (start .pre .0) (start .pre .1) (l .k) (omega arith) in
     let r = turn-room (a .book) (a .lines .now) (a .sent .now) (a .records .now) (start .pre .0) (start .pre .1) (l .k) (omega arith) (l .n) e in
     rw (l .inv .1, l .inv .3) (s, (n, r))
@@ -77,7 +78,7 @@ same-length c =
     let a = start .args in
     let h = start .pre .0 in
     let turn : tie.At-loop Inv-loop μ-loop = search in
-    rw (turn .loop .inv .1) (length-copied (a .lines .now) (a .sent .now) (h .lines ∙ sym (h .totals)) (turn .loop .k * 3) (omega (arith, h .lines)))
+    rw (turn .loop .inv .1) (length-copied (a .lines .now) (a .sent .now) (h .lines ∙ sym (h .totals)) (turn .loop .k * lineSize) (omega (arith, h .lines)))
 
 same-length-2 : tie.Need-same-length-2 Inv-loop μ-loop
 same-length-2 c =

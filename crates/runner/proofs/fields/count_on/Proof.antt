@@ -3,6 +3,7 @@ use mathlib.Core.Path.{_≡_}
 use Prim.Native.Nat.{_+_, min}
 use native.Mathlib.Omega.{arith}
 use borrow.Author.Needs.{needs}
+use Rattle.rules.specs.Sizes.{mostElements}
 use Rattle.runner.proofs.fields.count_on.Statement.{statement}
 use Rattle.runner.proofs.fields.count_on.Tie as tie
 
@@ -17,7 +18,7 @@ returns c =
     let start : tie.Start = search in
     let yes : tie.Then1 = search in
     let n = start .args .book .elements in
-    let z : min 65 (n + 1) ≡ n + 1 = omega (arith, yes .if1 .taken) in
+    let z : min (mostElements + 1) (n + 1) ≡ n + 1 = omega (arith, yes .if1 .taken) in
     rw z
 
 returns-2 : tie.Need-returns-2
@@ -25,7 +26,7 @@ returns-2 c =
     let start : tie.Start = search in
     let no : tie.Else1 = search in
     let n = start .args .book .elements in
-    let z : min 65 (n + 1) ≡ 65 = omega (arith, no .if1 .left) in
+    let z : min (mostElements + 1) (n + 1) ≡ mostElements + 1 = omega (arith, no .if1 .left) in
     rw z
 
 pub count-on-spec : {M : Type 1} → statement M

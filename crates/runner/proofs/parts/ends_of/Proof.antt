@@ -1,6 +1,9 @@
 -- `ends_of` meets its contract: 16 points of 31 days, and 16 suppliers of 64 elements, are few enough for every product.
 use Prim.Native.Nat.{_*_, _≤_}
 use native.Mathlib.Nat.{mul-le-mul}
+use Rattle.calendar.specs.Gregorian.{longestMonth}
+use Rattle.rules.specs.Sizes.{mostElements, mostSuppliers}
+use Rattle.file.specs.Program.{settlePoints}
 use Rattle.runner.specs.Parts.{endsOf}
 use Rattle.runner.proofs.PartLaws.{month-fits}
 use native.Mathlib.Omega.{arith}
@@ -20,25 +23,27 @@ mul-t7 c = search needs
 mul-t8 : tie.Need-mul-t8
 mul-t8 c =
     let a = c .before .args .book in
-    let h : a .points * c .days-in-month .result ≤ 16 * 31 = rw (c .days-in-month .ensures) (month-fits (a .points) (a .year) (a .month) (c .before .pre .points)) in
+    let h : a .points * c .days-in-month .result ≤ settlePoints * longestMonth =
+    rw (c .days-in-month .ensures) (month-fits (a .points) (a .year) (a .month) (c .before .pre .points)) in
     omega arith
 
 mul-t9 : tie.Need-mul-t9
 mul-t9 c =
     let a = c .before .args .book in
-    let h : a .points * c .days-in-month .result ≤ 16 * 31 = rw (c .days-in-month .ensures) (month-fits (a .points) (a .year) (a .month) (c .before .pre .points)) in
+    let h : a .points * c .days-in-month .result ≤ settlePoints * longestMonth =
+    rw (c .days-in-month .ensures) (month-fits (a .points) (a .year) (a .month) (c .before .pre .points)) in
     omega arith
 
 mul-t11 : tie.Need-mul-t11
 mul-t11 c =
     let a = c .before .args .book in
-    let h : a .suppliers * a .elements ≤ 16 * 64 = mul-le-mul (c .before .pre .suppliers) (c .before .pre .elements) in
+    let h : a .suppliers * a .elements ≤ mostSuppliers * mostElements = mul-le-mul (c .before .pre .suppliers) (c .before .pre .elements) in
     omega arith
 
 mul-t12 : tie.Need-mul-t12
 mul-t12 c =
     let a = c .before .args .book in
-    let h : a .suppliers * a .elements ≤ 16 * 64 = mul-le-mul (c .before .pre .suppliers) (c .before .pre .elements) in
+    let h : a .suppliers * a .elements ≤ mostSuppliers * mostElements = mul-le-mul (c .before .pre .suppliers) (c .before .pre .elements) in
     omega arith
 
 returns : tie.Need-returns
