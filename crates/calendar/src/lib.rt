@@ -11,6 +11,9 @@ pub const LAST_YEAR: u64 = 2099;
 
 pub const YEAR_MONTHS: u64 = 12;
 
+// The days of the longest month.
+pub const LONGEST_MONTH: usize = 31;
+
 // The first days of the 1,200 months, and behind them the day after the last.
 const FIRST_DAYS: [u64; 1201] = [
     0,

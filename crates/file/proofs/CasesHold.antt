@@ -8,11 +8,11 @@ use Rattle.rules.specs.Effects.{ask}
 use Rattle.rules.specs.Opening.{openingAnswer, opened}
 use Rattle.file.specs.Bytes.{followed, bytesNumber, numberIn, twosComplement, signed64}
 use Rattle.file.specs.Field.{tagOf, lengthOf, marksIn, tagAllowed, elementLength, lengthDue, headerRight, messageFields, monthIn, fieldNamed, rightField, wholeField, fieldOf}
-use Rattle.file.specs.Element.{priceAt, pricesOf}
+use Rattle.file.specs.Element.{priceAt, pricesIn}
 use Rattle.file.specs.Decimal.{digitsTo, decimal, signedDecimal}
 use Rattle.file.specs.Lines.{bookLine, recordNames, recordLine, refusedLine}
 use Rattle.file.specs.Encode.{numberBytes, encodeField, encodeMonth, complement, encodePrices, elementValue, encodeElement}
-use Rattle.file.specs.Program.{endedBy, onMessage, messagesFrom, describedAll, pricesAll, collected, lent, settleAnswer, openThen, onElement, elementsFrom, onMonth, settled}
+use Rattle.file.specs.Program.{endedBy, onMessage, messagesFrom, describedAll, pricesAll, collected, lentFor, settleAnswer, openThen, onElement, elementsFrom, onMonth, settled}
 use Rattle.file.specs.Cases.{march, elements, cases, sameBytes, holds}
 
 pub cases-hold : T (allIn holds cases)
@@ -20,7 +20,7 @@ unfolding isLeap hasThirty daysOfMonth firstOf firstDay within allTo allIn listT
     marked lineCount withinLimits rowsFit question2 readingCount linePlaces openingSized tablesSized linesSized question3 priceLimit
     priceSize elementRight question4 ask openingAnswer opened followed bytesNumber numberIn twosComplement signed64 tagOf lengthOf
     marksIn tagAllowed elementLength lengthDue headerRight messageFields monthIn fieldNamed rightField wholeField fieldOf priceAt
-    pricesOf digitsTo decimal signedDecimal bookLine recordNames recordLine refusedLine numberBytes encodeField encodeMonth complement
-    encodePrices elementValue encodeElement endedBy onMessage messagesFrom describedAll pricesAll collected lent settleAnswer openThen
+    pricesIn digitsTo decimal signedDecimal bookLine recordNames recordLine refusedLine numberBytes encodeField encodeMonth complement
+    encodePrices elementValue encodeElement endedBy onMessage messagesFrom describedAll pricesAll collected lentFor settleAnswer openThen
     onElement elementsFrom onMonth settled march elements cases sameBytes holds
 cases-hold = tt

@@ -18,8 +18,8 @@ priceAt value k =
     (signed64 (take priceBytes (drop (elementSize + priceBytes * k) value)))
     (pos 0)
 
-unfoldable pub pricesOf : (value : List ℕ) → List ℤ
-pricesOf value = listTo (priceAt value) pricePlaces
+unfoldable pub pricesIn : (value : List ℕ) → List ℤ
+pricesIn value = listTo (priceAt value) pricePlaces
 
 -- the table of kinds, owners and marks, three bytes an element, with those of element e from its value
 unfoldable pub elementBytes : (elementData : List ℕ) → (e : ℕ) → (value : List ℕ) → List ℕ
@@ -27,7 +27,7 @@ elementBytes elementData e value = placed elementData (e * elementSize) (take el
 
 -- the table of prices, 24 an element, with those of element e
 unfoldable pub elementPrices : (prices : List ℤ) → (e : ℕ) → (value : List ℕ) → List ℤ
-elementPrices prices e value = placed prices (e * pricePlaces) (pricesOf value)
+elementPrices prices e value = placed prices (e * pricePlaces) (pricesIn value)
 
 -- the value stands in the bytes, and the tables have room for element e
 pub record ElementRoom (bytes : List ℕ) (at size : ℕ) (elementData : List ℕ) (prices : List ℤ) (e : ℕ) : Type 0 where

@@ -16,7 +16,7 @@ use Rattle.file.specs.declared.fields.Phase.{Phase}
 use Rattle.file.specs.declared.fields.Found.{Found}
 use Rattle.file.specs.declared.fields.Found.the-variants.{Month, Element, Message, End, More, Broken}
 use Rattle.file.specs.Field.{fieldOf}
-use Rattle.file.specs.Element.{pricesOf}
+use Rattle.file.specs.Element.{pricesIn}
 use Rattle.file.specs.Lines.{bookLine, recordLine, refusedLine}
 
 -- "Refusals 1 to 4 print `refused 0 N` and end the run; lines printed before stand."
@@ -72,7 +72,7 @@ describedAll (value ∷ values) = take elementSize value ++ describedAll values
 
 unfoldable pub pricesAll : (values : List (List ℕ)) → List ℤ
 pricesAll [] = []
-pricesAll (value ∷ values) = pricesOf value ++ pricesAll values
+pricesAll (value ∷ values) = pricesIn value ++ pricesAll values
 
 -- the month with the elements whose values were read, in the order of the file
 unfoldable pub collected : (heading : Heading) → (values : List (List ℕ)) → Opening
@@ -88,8 +88,8 @@ collected h values =
     }
 
 -- the tables that the program lends: each of its exact length
-unfoldable pub lent : Opening → World
-lent o =
+unfoldable pub lentFor : Opening → World
+lentFor o =
     record {
       opening = o;
       position = record {
@@ -110,13 +110,13 @@ abbrev pub settlePoints : ℕ
 settlePoints = 16
 
 unfoldable pub settleAnswer : Opening → ℕ
-settleAnswer o = ask (leb (o .points) settlePoints) 2 (openingAnswer (lent o))
+settleAnswer o = ask (leb (o .points) settlePoints) 2 (openingAnswer (lentFor o))
 
 -- "The book opens, printing its line": "`book`: year, month, days, first day."; "2 to 4 are asked then"
 unfoldable pub openThen : Opening → (more : World → List ℕ) → List ℕ
 openThen o more =
     cond (eqb (settleAnswer o) 0)
-    (bookLine (o .year) (o .month) (monthDays o) (monthFirst o) ++ more (opened (lent o)))
+    (bookLine (o .year) (o .month) (monthDays o) (monthFirst o) ++ more (opened (lentFor o)))
     (endedBy (settleAnswer o))
 
 -- ---- elements

@@ -11,7 +11,7 @@ ghost use lib.ListN.{length, take, drop};
 ghost use Rattle.file.specs.Bytes.{wordBytes, numberIn, twosComplement, placed};
 ghost use Rattle.file.specs.Field.{monthSize, messageSize, tagAllowed, elementLength, lengthDue, headerRight, cutOff};
 ghost use Rattle.file.specs.Field.{monthIn, messageFields, fieldNamed, RightField, fieldIn, fieldFrom};
-ghost use Rattle.file.specs.Element.{priceAt, pricesOf, elementBytes, elementPrices, ElementRoom};
+ghost use Rattle.file.specs.Element.{priceAt, pricesIn, elementBytes, elementPrices, ElementRoom};
 ghost use Rattle.rules.specs.Lent.{left, was};
 ghost use Rattle.rules.specs.Sizes.{pricePlaces};
 
@@ -267,7 +267,7 @@ fn price_at(s: &[u8], at: usize, size: usize, k: usize) -> i64
 // The 24 prices of the value, from a place of the table on.
 fn put_prices(prices: &mut [i64], place: usize, s: &[u8], at: usize, size: usize)
     requires { ⌜ (at + size ≤ length (now s)) × (place + pricePlaces ≤ length (now prices)) ⌝ }
-    ensures { λ _. ⌜ left prices ≡ placed (was prices) place (pricesOf (take size (drop at (was s)))) ⌝ }
+    ensures { λ _. ⌜ left prices ≡ placed (was prices) place (pricesIn (take size (drop at (was s)))) ⌝ }
 {
     let mut k = 0;
     while k < PRICE_PLACES {

@@ -12,6 +12,7 @@ use Rattle.rules.specs.declared.Fields.{Fields}
 use Rattle.rules.specs.declared.Record.{Record}
 use Rattle.rules.specs.Answers.{numberOf}
 use Rattle.rules.specs.Basics.{listTo}
+use Rattle.rules.specs.Sizes.{recordSize}
 use Rattle.rules.specs.World.{World}
 use Rattle.rules.specs.Effects.{answer, step, recordsOf}
 use Rattle.rules.specs.Claim.{Event, History, advance, advanceAll, begin}
@@ -83,19 +84,19 @@ numbers-append [] ss = refl
 numbers-append (r ∷ rs) ss = ap (λ (l : List ℤ). recordNumbers r ++ l) (numbers-append rs ss) ∙ sym (append-assoc (recordNumbers r) (numbersOf rs) (numbersOf ss))
 
 module _ (rs ss : List Record) (lent : List ℤ) (n : ℕ) (e : n ≡ length rs) where
-  front : take (n * 6) (numbersAfter rs lent) ≡ numbersOf rs
+  front : take (n * recordSize) (numbersAfter rs lent) ≡ numbersOf rs
   unfolding numbersAfter
-  front = take-at (numbersOf rs) _ (n * 6) (length-numbers rs ∙ ap (λ k. k * 6) (sym e))
+  front = take-at (numbersOf rs) _ (n * recordSize) (length-numbers rs ∙ ap (λ k. k * recordSize) (sym e))
 
-  behind-them : drop (n * 6) (numbersAfter rs lent) ≡ drop (n * 6) lent
+  behind-them : drop (n * recordSize) (numbersAfter rs lent) ≡ drop (n * recordSize) lent
   unfolding numbersAfter
-  behind-them = drop-at (numbersOf rs) _ (n * 6) (length-numbers rs ∙ ap (λ k. k * 6) (sym e)) ∙ rw e
+  behind-them = drop-at (numbersOf rs) _ (n * recordSize) (length-numbers rs ∙ ap (λ k. k * recordSize) (sym e)) ∙ rw e
 
-  numbers-behind : numbersOf rs ++ numbersAfter ss (drop (n * 6) lent) ≡ numbersAfter (rs ++ ss) lent
+  numbers-behind : numbersOf rs ++ numbersAfter ss (drop (n * recordSize) lent) ≡ numbersAfter (rs ++ ss) lent
   unfolding numbersAfter
   numbers-behind =
-      let k : n * 6 + length ss * 6 ≡ length (rs ++ ss) * 6 = rw (length-append rs ss) (omega arith) in
-      rw (numbers-append rs ss, append-assoc (numbersOf rs) (numbersOf ss), drop-drop (length ss * 6) (n * 6) lent, k)
+      let k : n * recordSize + length ss * recordSize ≡ length (rs ++ ss) * recordSize = rw (length-append rs ss) (omega arith) in
+      rw (numbers-append rs ss, append-assoc (numbersOf rs) (numbersOf ss), drop-drop (length ss * recordSize) (n * recordSize) lent, k)
 
 -- ---- one store behind the answers
 
@@ -114,7 +115,7 @@ module _ (w mid : World) (fs : List Fields) (count : ℕ) (lent list : List ℤ)
   unfolding begin
   left-here = let e = left-is (begin w) fs (roomIn lent) in let n = g .count-is in omega arith
 
-  pub count-fits : count ≤ length lent / 6
+  pub count-fits : count ≤ length lent / recordSize
   count-fits = let e = left-here in omega arith
 
   pub list-long : length list ≡ length lent
@@ -126,18 +127,18 @@ module _ (w mid : World) (fs : List Fields) (count : ℕ) (lent list : List ℤ)
   pub answered-long : length fs ≤ length table → length answered ≡ length table
   answered-long h = ap length (g .answers) ∙ length-append (answersTo w (eventsFrom w fs (roomIn lent))) _ ∙ rw (length-answers w fs (roomIn lent) w, length-drop) (omega arith)
 
-  room-left : roomIn (drop (count * 6) list) ≡ placesLeft w fs (roomIn lent)
+  room-left : roomIn (drop (count * recordSize) list) ≡ placesLeft w fs (roomIn lent)
   room-left =
       let l = list-long in
       let e = left-here in
-      let d = length-drop (count * 6) list in
+      let d = length-drop (count * recordSize) list in
       omega arith
 
-  module _ (after : World) (f : Fields) (r : Reply) (out : List ℤ) (q : Replied mid after f r (drop (count * 6) list) (drop (count * 6) out)) where
+  module _ (after : World) (f : Fields) (r : Reply) (out : List ℤ) (q : Replied mid after f r (drop (count * recordSize) list) (drop (count * recordSize) out)) where
     -- the records of one message more fit too
-    pub next-fits : count + r .records ≤ length lent / 6
+    pub next-fits : count + r .records ≤ length lent / recordSize
     next-fits =
-        let k = records-fit mid f (roomIn (drop (count * 6) list)) in
+        let k = records-fit mid f (roomIn (drop (count * recordSize) list)) in
         let n = q .count in
         let e = left-here in
         let l = room-left in
@@ -155,16 +156,16 @@ module _ (w mid : World) (fs : List Fields) (count : ℕ) (lent list : List ℤ)
     world-more : after ≡ runFrom w (fs ++ (f ∷ [])) (roomIn lent) .world
     world-more = q .world ∙ rw (room-left, g .world) (sym (ap (λ x. x .world) run-more ∙ advance-world h f room))
 
-    written-more : h .records ++ recordsOf mid f (roomIn (drop (count * 6) list)) ≡ runFrom w (fs ++ (f ∷ [])) (roomIn lent) .records
+    written-more : h .records ++ recordsOf mid f (roomIn (drop (count * recordSize) list)) ≡ runFrom w (fs ++ (f ∷ [])) (roomIn lent) .records
     written-more = rw (room-left, g .world) (sym (ap (λ x. x .records) run-more ∙ advance-records h f room))
 
-    list-more : take (count * 6) out ≡ take (count * 6) list → out ≡ numbersAfter (runFrom w (fs ++ (f ∷ [])) (roomIn lent) .records) lent
+    list-more : take (count * recordSize) out ≡ take (count * recordSize) list → out ≡ numbersAfter (runFrom w (fs ++ (f ∷ [])) (roomIn lent) .records) lent
     list-more p =
         let rs = h .records in
-        let ss = recordsOf mid f (roomIn (drop (count * 6) list)) in
-        sym (take-append-drop (count * 6) out)
-        ∙ ap₂ (λ (a b : List ℤ). a ++ b) (p ∙ ap (take (count * 6)) (g .list) ∙ front rs ss lent count (g .count-is))
-        (q .list ∙ ap (numbersAfter ss) (ap (drop (count * 6)) (g .list) ∙ behind-them rs ss lent count (g .count-is)))
+        let ss = recordsOf mid f (roomIn (drop (count * recordSize) list)) in
+        sym (take-append-drop (count * recordSize) out)
+        ∙ ap₂ (λ (a b : List ℤ). a ++ b) (p ∙ ap (take (count * recordSize)) (g .list) ∙ front rs ss lent count (g .count-is))
+        (q .list ∙ ap (numbersAfter ss) (ap (drop (count * recordSize)) (g .list) ∙ behind-them rs ss lent count (g .count-is)))
         ∙ numbers-behind rs ss lent count (g .count-is) ∙ ap (λ x. numbersAfter x lent) written-more
 
     count-more : count + r .records ≡ length (runFrom w (fs ++ (f ∷ [])) (roomIn lent) .records)
@@ -181,7 +182,7 @@ module _ (w mid : World) (fs : List Fields) (count : ℕ) (lent list : List ℤ)
         rw (g .answers, answer-is, n, events-more w fs f (roomIn lent), answers-more (begin w) (eventsFrom w fs (roomIn lent)) (lentWith f room))
         (answer-put (answersTo w (eventsFrom w fs (roomIn lent))) table (length fs) _ (length-answers w fs (roomIn lent) w) l)
 
-    pub followed-more : take (count * 6) out ≡ take (count * 6) list → (given : List ℕ) → given ≡ set answered (length fs) (numberOf (r .answer)) → length fs < length table
+    pub followed-more : take (count * recordSize) out ≡ take (count * recordSize) list → (given : List ℕ) → given ≡ set answered (length fs) (numberOf (r .answer)) → length fs < length table
         → Followed w after (fs ++ (f ∷ [])) (count + r .records) lent out table given
     followed-more p given s l =
         record {
@@ -207,7 +208,7 @@ module _ (w mid : World) (inputs : List ℕ) (i count : ℕ) (lent list : List �
 
   -- one turn of the loop
   pub followed-turn : (after : World) (f : Fields) (r : Reply) (out : List ℤ) (n : ℕ) → i < length table → f ≡ fieldsAt inputs i
-      → Replied mid after f r (drop (count * 6) list) (drop (count * 6) out) → take (count * 6) out ≡ take (count * 6) list → n ≡ numberOf (r .answer)
+      → Replied mid after f r (drop (count * recordSize) list) (drop (count * recordSize) out) → take (count * recordSize) out ≡ take (count * recordSize) list → n ≡ numberOf (r .answer)
       → Followed w after (messagesOf inputs (i + 1)) (count + r .records) lent out table (set answered i n)
   followed-turn after f r out n l e q p a =
       let k = length-messages inputs i in

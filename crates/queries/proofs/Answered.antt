@@ -13,6 +13,7 @@ use native.Mathlib.Omega.{arith}
 use Rattle.rules.specs.declared.Answer.{Answer}
 use Rattle.rules.specs.declared.LineAnswer.{LineAnswer}
 use Rattle.ledger.specs.declared.lines.Line.{Line}
+use Rattle.rules.specs.Sizes.{mostElements, mostLines, mostSuppliers}
 use Rattle.rules.specs.Lines.{Measure}
 use Rattle.rules.specs.Rows.{pairRows}
 use Rattle.rules.specs.World.{World, rowsOf, lineAt, lineCount, storedAt, stored}
@@ -29,10 +30,10 @@ use Rattle.queries.specs.Promises.{isLine, LineAnswered}
 use Rattle.queries.proofs.Asks.{line-passed}
 
 -- every product fits
-pub place-small : (elements s : ℕ) → s ≤ 16 → elements ≤ 64 → (s - 1) * elements ≤ 1024
+pub place-small : (elements s : ℕ) → s ≤ mostSuppliers → elements ≤ mostElements → (s - 1) * elements ≤ mostLines
 place-small elements s h k =
-    let n : s - 1 ≤ 16 = omega arith in
-    let m : (s - 1) * elements ≤ 16 * 64 = mul-le-mul n k in
+    let n : s - 1 ≤ mostSuppliers = omega arith in
+    let m : (s - 1) * elements ≤ mostSuppliers * mostElements = mul-le-mul n k in
     omega arith
 
 module _ (w : World) (s e : ℕ) where
@@ -48,7 +49,7 @@ module _ (w : World) (s e : ℕ) where
   -- ---- answered
 
   module _ (h : lineNumber w s e ≡ 0) where
-    pub line-in : ((1 ≤ s) × (s ≤ 16)) × ((w .opening .elements ≤ 64) × (e < w .opening .elements))
+    pub line-in : ((1 ≤ s) × (s ≤ mostSuppliers)) × ((w .opening .elements ≤ mostElements) × (e < w .opening .elements))
     line-in =
         let k = line-passed w s e h in
         let m = lengths w (k .0) .limited in

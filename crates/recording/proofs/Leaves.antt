@@ -12,12 +12,12 @@ use Rattle.rules.proofs.Body.{the-type}
 use Rattle.rules.specs.Rows.{packPeriod, insertRow, stopRows, splitRows, packValue, recordRow}
 use Rattle.rules.specs.Sizes.{holderSize, stateSize}
 use Rattle.rules.specs.World.{Table, Tables, rowsOf, readingAt}
-use Rattle.rules.specs.Effects.{withLinks, withHolders as tablesWithHolders, withStates as tablesWithStates, withReadings, withBlocks, told}
+use Rattle.rules.specs.Effects.{withLinks, withHolders, withStates, withReadings, withBlocks, told}
 use Rattle.rules.specs.Lent.{Lists, worldIn, openingIn, tablesIn, lendLinks, lendHolders, lendStates, lendReadings, lendBlocks}
 use Rattle.tables.specs.Search.{Changed}
 use Rattle.tables.proofs.Callers.{changed-table}
 use Rattle.facts.specs.Links.{linkEnds}
-use Rattle.recording.specs.Recorded.{withPeriods, withHolders, withStates, RowFits, RecordedAs}
+use Rattle.recording.specs.Recorded.{usingPeriods, usingHolders, usingStates, RowFits, RecordedAs}
 
 module _ (b : Book) (o : Lists) where
   with-links : Table → Tables
@@ -51,28 +51,28 @@ module _ (b : Book) (o : Lists) where
       }
 
   module _ (body : Body) {rows words : List ℕ} {n : ℕ} {r : Book} (c : Changed rows words n) where
-    links-recorded : told (openingIn b o) (tablesIn b o) body ≡ withLinks (tablesIn b o) rows → r ≡ withPeriods b n
+    links-recorded : told (openingIn b o) (tablesIn b o) body ≡ withLinks (tablesIn b o) rows → r ≡ usingPeriods b n
         → RecordedAs b o body r (lendLinks words o)
     unfolding withLinks with-links
     links-recorded e h = subst (λ x. RecordedAs b o body x (lendLinks words o)) (sym h)
         (record { tables = ap with-links (changed-table c) ∙ sym e; opening = refl; round = refl })
 
-    holders-recorded : told (openingIn b o) (tablesIn b o) body ≡ tablesWithHolders (tablesIn b o) rows → r ≡ withHolders b n
+    holders-recorded : told (openingIn b o) (tablesIn b o) body ≡ withHolders (tablesIn b o) rows → r ≡ usingHolders b n
         → RecordedAs b o body r (lendHolders words o)
-    unfolding tablesWithHolders with-holders
+    unfolding withHolders with-holders
     holders-recorded e h = subst (λ x. RecordedAs b o body x (lendHolders words o)) (sym h)
         (record { tables = ap with-holders (changed-table c) ∙ sym e; opening = refl; round = refl })
 
-    states-recorded : told (openingIn b o) (tablesIn b o) body ≡ tablesWithStates (tablesIn b o) rows → r ≡ withStates b n
+    states-recorded : told (openingIn b o) (tablesIn b o) body ≡ withStates (tablesIn b o) rows → r ≡ usingStates b n
         → RecordedAs b o body r (lendStates words o)
-    unfolding tablesWithStates with-states
+    unfolding withStates with-states
     states-recorded e h = subst (λ x. RecordedAs b o body x (lendStates words o)) (sym h)
         (record { tables = ap with-states (changed-table c) ∙ sym e; opening = refl; round = refl })
 
   module _ {body : Body} {words : List ℕ} {n : ℕ} {r : Book} where
     -- message 1
     pub link-left : (p e d q ends : ℕ) → body ≡ Link p e d q → ends ≡ linkEnds (openingIn b o) (tablesIn b o) body
-        → Changed (insertRow (packPeriod p e d ends q) (take (b .periods) (o .links))) words n → r ≡ withPeriods b n
+        → Changed (insertRow (packPeriod p e d ends q) (take (b .periods) (o .links))) words n → r ≡ usingPeriods b n
         → RecordedAs b o body r (lendLinks words o)
     link-left p e d q ends h k c =
         let k′ : ends ≡ linkEnds (openingIn b o) (tablesIn b o) (Link p e d q) = rw h at k in
@@ -80,24 +80,24 @@ module _ (b : Book) (o : Lists) where
 
     -- message 2
     pub stop-left : (p e d : ℕ) → body ≡ Stop p e d → Changed (stopRows p e d (take (b .periods) (o .links))) words n
-        → r ≡ withPeriods b n → RecordedAs b o body r (lendLinks words o)
+        → r ≡ usingPeriods b n → RecordedAs b o body r (lendLinks words o)
     stop-left p e d h c = rw h (links-recorded (Stop p e d) c (unfold told rowsOf in refl))
 
     -- message 3
     pub quantity-left : (p e d q : ℕ) → body ≡ Quantity p e d q → Changed (splitRows p e d q (take (b .periods) (o .links))) words n
-        → r ≡ withPeriods b n → RecordedAs b o body r (lendLinks words o)
+        → r ≡ usingPeriods b n → RecordedAs b o body r (lendLinks words o)
     quantity-left p e d q h c = rw h (links-recorded (Quantity p e d q) c (unfold told rowsOf in refl))
 
     -- message 4
     pub holder-left : (p d v : ℕ) → body ≡ Holder p d v
         → Changed (recordRow holderSize (packValue holderSize p d v) (take (b .holders) (o .holders))) words n
-        → r ≡ withHolders b n → RecordedAs b o body r (lendHolders words o)
+        → r ≡ usingHolders b n → RecordedAs b o body r (lendHolders words o)
     holder-left p d v h c = rw h (holders-recorded (Holder p d v) c (unfold told rowsOf in refl))
 
     -- message 5
     pub state-left : (p d v : ℕ) → body ≡ State p d v
         → Changed (recordRow stateSize (packValue stateSize p d v) (take (b .states) (o .states))) words n
-        → r ≡ withStates b n → RecordedAs b o body r (lendStates words o)
+        → r ≡ usingStates b n → RecordedAs b o body r (lendStates words o)
     state-left p d v h c = rw h (states-recorded (State p d v) c (unfold told rowsOf in refl))
 
   -- message 6

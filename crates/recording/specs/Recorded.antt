@@ -17,8 +17,8 @@ use Rattle.facts.specs.Readings.{HourOfMonth}
 
 -- ---- a book with another count of rows
 
-abbrev pub withPeriods : Book → (used : ℕ) → Book
-withPeriods b n =
+abbrev pub usingPeriods : Book → (used : ℕ) → Book
+usingPeriods b n =
     record {
       year = b .year;
       month = b .month;
@@ -31,8 +31,8 @@ withPeriods b n =
       round = b .round;
     }
 
-abbrev pub withHolders : Book → (used : ℕ) → Book
-withHolders b n =
+abbrev pub usingHolders : Book → (used : ℕ) → Book
+usingHolders b n =
     record {
       year = b .year;
       month = b .month;
@@ -45,8 +45,8 @@ withHolders b n =
       round = b .round;
     }
 
-abbrev pub withStates : Book → (used : ℕ) → Book
-withStates b n =
+abbrev pub usingStates : Book → (used : ℕ) → Book
+usingStates b n =
     record {
       year = b .year;
       month = b .month;

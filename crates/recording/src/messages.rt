@@ -13,7 +13,7 @@ ghost use Rattle.rules.specs.Lent.{Lists, openingIn, tablesIn, lendRows, lendRe
 ghost use Rattle.tables.specs.Order.{LinkRows, ValueRows, ClearBehind, TableRows, PairFits, DayFits, PointFits};
 ghost use Rattle.tables.specs.Search.{Changed};
 ghost use Rattle.facts.specs.Links.{linkEnds};
-ghost use Rattle.recording.specs.Recorded.{withPeriods, withHolders, withStates, RowFits, ReadingFits, RecordedAs};
+ghost use Rattle.recording.specs.Recorded.{usingPeriods, usingHolders, usingStates, RowFits, ReadingFits, RecordedAs};
 use facts::reading_place;
 use rules::Body;
 use rules::Book;
@@ -81,24 +81,24 @@ pub fn rows_fit_after(
 
 // ---- the book with another count of rows
 
-fn with_periods(book: Book, used: usize) -> Book
-    ensures { λ r. ⌜ r ≡ withPeriods book used ⌝ }
+fn using_periods(book: Book, used: usize) -> Book
+    ensures { λ r. ⌜ r ≡ usingPeriods book used ⌝ }
 {
     let mut after = book;
     after.periods = used as u64;
     after
 }
 
-fn with_holders(book: Book, used: usize) -> Book
-    ensures { λ r. ⌜ r ≡ withHolders book used ⌝ }
+fn using_holders(book: Book, used: usize) -> Book
+    ensures { λ r. ⌜ r ≡ usingHolders book used ⌝ }
 {
     let mut after = book;
     after.holders = used as u64;
     after
 }
 
-fn with_states(book: Book, used: usize) -> Book
-    ensures { λ r. ⌜ r ≡ withStates book used ⌝ }
+fn using_states(book: Book, used: usize) -> Book
+    ensures { λ r. ⌜ r ≡ usingStates book used ⌝ }
 {
     let mut after = book;
     after.states = used as u64;
@@ -165,7 +165,7 @@ pub fn write_rows(
             element,
             day,
             quantity,
-        } => with_periods(
+        } => using_periods(
             book,
             write_period(links, periods, point, element, day, ends, quantity),
         ),
@@ -173,23 +173,23 @@ pub fn write_rows(
             point,
             element,
             day,
-        } => with_periods(book, stop(links, periods, point, element, day)),
+        } => using_periods(book, stop(links, periods, point, element, day)),
         Body::Quantity {
             point,
             element,
             day,
             quantity,
-        } => with_periods(book, split(links, periods, point, element, day, quantity)),
+        } => using_periods(book, split(links, periods, point, element, day, quantity)),
         Body::Holder { point, day, holder } => {
             let used = book.holders as usize;
-            with_holders(
+            using_holders(
                 book,
                 write_value(holders, used, HOLDER_SIZE, point, day, holder),
             )
         }
         Body::State { point, day, state } => {
             let used = book.states as usize;
-            with_states(
+            using_states(
                 book,
                 write_value(states, used, STATE_SIZE, point, day, state),
             )

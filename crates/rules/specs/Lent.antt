@@ -21,8 +21,8 @@ pub record Lists : Type 0 where
   pub sent : List ℤ
 
 -- nothing is lent
-abbrev pub nothing : Lists
-nothing =
+abbrev pub noLists : Lists
+noLists =
     record {
       elementData = [];
       prices = [];

@@ -80,6 +80,10 @@ mostLineQuantity = 10000000000000
 abbrev pub mostLineKroner : ℕ
 mostLineKroner = 1000000000000
 
+-- what a message changes a line by at most, in number or Wh and in billionths
+abbrev pub mostChange : ℕ
+mostChange = 1000000000000000000
+
 -- the billionths of a krone, and of a millionth of it
 abbrev pub billion : ℕ
 billion = 1000000000

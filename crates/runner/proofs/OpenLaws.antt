@@ -27,7 +27,7 @@ use Rattle.recording.specs.Opened.{cleared}
 use Rattle.recording.proofs.ClearLaws.{opened-cleared}
 use Rattle.file.specs.declared.fields.Phase.{Phase}
 use Rattle.file.specs.Lines.{longestLine, Written}
-use Rattle.file.specs.Program.{endedBy, Heading, collected, lent, settlePoints, settleAnswer}
+use Rattle.file.specs.Program.{endedBy, Heading, collected, lentFor, settlePoints, settleAnswer}
 use Rattle.file.proofs.PlacedLaws.{loosened}
 use Rattle.runner.specs.declared.Advanced.{Advanced}
 use Rattle.runner.specs.Stages.{Stage, broken, lineOf, openedTo, opening}
@@ -39,7 +39,7 @@ use Rattle.runner.proofs.PartLaws.{within, limited-fitted}
 -- ---- question 2
 
 pub unlimited : (o : Opening) → withinLimits o ≡ false → settleAnswer o ≡ 2
-unfolding settleAnswer openingAnswer question2 ask lent
+unfolding settleAnswer openingAnswer question2 ask lentFor
 unlimited o h = cases (leb (o .points) settlePoints) (λ t. rw (t, h)) (λ t. rw t)
 
 pub too-many-points : (o : Opening) → settlePoints < o .points → settleAnswer o ≡ 2
@@ -51,8 +51,8 @@ too-many o h = cases (withinLimits o) (λ t. let l = limits o t in absurd (omega
 
 -- ---- questions 3 and 4: every table has its exact length
 
-lent-sized : (o : Opening) → openingSized o ≡ true → question3 (lent o) ≡ true
-unfolding question3 lent tablesSized linesSized tableOf
+lent-sized : (o : Opening) → openingSized o ≡ true → question3 (lentFor o) ≡ true
+unfolding question3 lentFor tablesSized linesSized tableOf
 lent-sized o h =
     rw (
       h,
@@ -75,7 +75,7 @@ module _ (b : Book) (t : Lists) (g : Fitted b)
 
   -- question 4 alone is left
   pub asked-elements : withinLimits (frontsOpening b t) ≡ true → settleAnswer (frontsOpening b t) ≡ elementsAnswer (frontsOpening b t)
-  unfolding settleAnswer openingAnswer question2 question4 ask rowsFit tableOf lent
+  unfolding settleAnswer openingAnswer question2 question4 ask rowsFit tableOf lentFor
   asked-elements h = rw (le-leb (b .points) settlePoints (g .points), h, lent-sized (frontsOpening b t) described-sized)
 
 -- ---- questions 2 to 4 pass
@@ -85,14 +85,14 @@ pub record Settles (o : Opening) : Type 0 where
   pub limits : Limits o
   pub within : withinLimits o ≡ true
   pub sized : openingSized o ≡ true
-  pub elements : question4 (lent o) ≡ true
-  pub whole : Whole (opened (lent o))
+  pub elements : question4 (lentFor o) ≡ true
+  pub whole : Whole (opened (lentFor o))
 
 pub settles : (o : Opening) → settleAnswer o ≡ 0 → Settles o
-unfolding settleAnswer lent question2 question3
+unfolding settleAnswer lentFor question2 question3
 settles o h =
     let a = asked-passed (leb (o .points) settlePoints) 2 _ 0 (λ k. omega arith) h in
-    let p = passed (lent o) (a .1) in
+    let p = passed (lentFor o) (a .1) in
     let l = both (withinLimits o) _ (p .limited) .0 in
     record {
       points = leb-true _ _ (a .0);
@@ -100,7 +100,7 @@ settles o h =
       within = l;
       sized = both (openingSized o) _ (p .sized) .0;
       elements = p .elements;
-      whole = begin-whole (lent o) p;
+      whole = begin-whole (lentFor o) p;
     }
 
 -- ---- the tables' own opening
@@ -125,16 +125,16 @@ module _ (b : Book) (t : Lists) (s : Sized t) (h : settleAnswer (frontsOpening b
       )
 
   opens-parts : openingAnswer (frontsWorld (anew b) t) ≡ 0
-  unfolding openingAnswer question2 question4 ask rowsFit endsOf lent
+  unfolding openingAnswer question2 question4 ask rowsFit endsOf lentFor
   opens-parts = let p = settles (frontsOpening b t) h in rw (p .within, parts-sized, p .elements)
 
   -- cleared parts are the opened book's
-  pub opened-parts : (t′ : Lists) → fronts b t′ ≡ cleared (fronts b t) → frontsWorld (anew b) t′ ≡ opened (lent (frontsOpening b t))
+  pub opened-parts : (t′ : Lists) → fronts b t′ ≡ cleared (fronts b t) → frontsWorld (anew b) t′ ≡ opened (lentFor (frontsOpening b t))
   unfolding endsOf
   opened-parts t′ e =
       ap (worldIn (anew b)) e
       ∙ opened-cleared (b .year) (b .month) (b .points) (b .suppliers) (b .elements) (fronts b t) opens-parts
-      ∙ unfold opened lent in refl
+      ∙ unfold opened lentFor in refl
 
 -- ---- the values that were read are the tables' opening
 
@@ -184,10 +184,10 @@ module _ (b : Book) (t : Lists) (h : Heading) (values : List (List ℕ)) (v : Ho
       book-opens z =
           let k : settleAnswer (frontsOpening b t) ≡ 0 = sym a ∙ z in
           let p = settles (frontsOpening b t) k in
-          let same : frontsWorld b t′ ≡ opened (lent (frontsOpening b t)) =
+          let same : frontsWorld b t′ ≡ opened (lentFor (frontsOpening b t)) =
           ap (λ (x : Book). frontsWorld x t′) (sym fresh-again) ∙ opened-parts b t s k t′ (c z) in
           rw (← opening-in at (openedTo last), e, z, k) (record {
-            holds = opened-holds (opened (lent (frontsOpening b t))) last (record { world = sym same; whole = p .whole; points = p .points });
+            holds = opened-holds (opened (lentFor (frontsOpening b t))) last (record { world = sym same; whole = p .whole; points = p .points });
             text = loosened (omega arith) (rw z at w);
             place = refl;
           })

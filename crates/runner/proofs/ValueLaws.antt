@@ -11,7 +11,7 @@ use Rattle.rules.specs.declared.Book.{Book}
 use Rattle.rules.proofs.Ranges.{length-listTo}
 use Rattle.recording.specs.Opened.{freshBook}
 use Rattle.file.specs.Bytes.{placed}
-use Rattle.file.specs.Element.{priceAt, pricesOf, elementBytes, elementPrices}
+use Rattle.file.specs.Element.{priceAt, pricesIn, elementBytes, elementPrices}
 use Rattle.file.specs.Program.{Heading, describedAll, pricesAll}
 use Rattle.runner.specs.Holding.{HoldsValues, counted}
 
@@ -30,16 +30,16 @@ described-more (v ∷ values) value =
     ap (λ (l : List ℕ). take elementSize v ++ l) (described-more values value)
     ∙ sym (append-assoc (take elementSize v) (describedAll values) (take elementSize value))
 
-prices-more : (values : List (List ℕ)) (value : List ℕ) → pricesAll (values ++ (value ∷ [])) ≡ pricesAll values ++ pricesOf value
+prices-more : (values : List (List ℕ)) (value : List ℕ) → pricesAll (values ++ (value ∷ [])) ≡ pricesAll values ++ pricesIn value
 unfolding pricesAll
-prices-more [] value = append-nil (pricesOf value)
-prices-more (v ∷ values) value = ap (λ (l : List ℤ). pricesOf v ++ l) (prices-more values value) ∙ sym (append-assoc (pricesOf v) (pricesAll values) (pricesOf value))
+prices-more [] value = append-nil (pricesIn value)
+prices-more (v ∷ values) value = ap (λ (l : List ℤ). pricesIn v ++ l) (prices-more values value) ∙ sym (append-assoc (pricesIn v) (pricesAll values) (pricesIn value))
 
 length-more : (values : List (List ℕ)) (value : List ℕ) → length (values ++ (value ∷ [])) ≡ length values + 1
 length-more values value = length-append values (value ∷ [])
 
-prices-long : (value : List ℕ) → length (pricesOf value) ≡ pricePlaces
-unfolding pricesOf
+prices-long : (value : List ℕ) → length (pricesIn value) ≡ pricePlaces
+unfolding pricesIn
 prices-long value = length-listTo (priceAt value) pricePlaces
 
 counted-more : (n : ℕ) → min (mostElements + 1) (min (mostElements + 1) n + 1) ≡ min (mostElements + 1) (n + 1)
@@ -67,7 +67,7 @@ module _ (b : Book) (ds : List ℕ) (ps : List ℤ) (h : Heading) (values : List
         described = λ q. rw (d, z, length-more values value, described-more values value, ← v .described l)
             (placed-front ds (n * elementSize) (take elementSize value) ((n + 1) * elementSize) (omega arith) (omega (arith, t)));
         priced = λ q. rw (p, z, length-more values value, prices-more values value, ← v .priced l)
-            (placed-front ps (n * pricePlaces) (pricesOf value) ((n + 1) * pricePlaces) (omega arith) (omega (arith, prices-long value)));
+            (placed-front ps (n * pricePlaces) (pricesIn value) ((n + 1) * pricePlaces) (omega arith) (omega (arith, prices-long value)));
       }
 
   -- there is none

@@ -12,7 +12,7 @@ use Rattle.file.specs.declared.fields.Found.{Found}
 use Rattle.file.specs.declared.fields.Found.the-variants.{Month, Element, Message, End, More, Broken}
 use Rattle.file.specs.Field.{fieldIn, fieldFrom}
 use Rattle.file.specs.Lines.{bookLine}
-use Rattle.file.specs.Program.{endedBy, recordPlaces, answered, messagesFrom, Heading, collected, lent, settleAnswer, elementsFrom, settled}
+use Rattle.file.specs.Program.{endedBy, recordPlaces, answered, messagesFrom, Heading, collected, lentFor, settleAnswer, elementsFrom, settled}
 
 -- before tag 1; after it, with the values of the elements so far; after the opening, with the number of the next message; at the end
 pub data Stage : Type 0 where
@@ -62,7 +62,7 @@ openedTo true w = over
 unfoldable pub opening : (at : ℕ) → Opening → (more : World → Stage) → Move
 opening at o more =
     cond (eqb (settleAnswer o) 0)
-    (record { text = lineOf o; stage = more (opened (lent o)); next = at })
+    (record { text = lineOf o; stage = more (opened (lentFor o)); next = at })
     (broken at (settleAnswer o))
 
 -- a field that was found from a place of the bytes on; where the bytes in hand end within it, nothing yet

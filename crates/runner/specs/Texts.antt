@@ -1,5 +1,5 @@
 -- What an opening and a message print, as the code has it, and how far a run has come behind a field.
-use Prim.Native.Nat.{ℕ}
+use Prim.Native.Nat.{ℕ, _*_}
 use mathlib.Core.Bool.{Bool, true, false, cond}
 use mathlib.Core.List.{List}
 use lib.IntN.{ℤ}
@@ -11,14 +11,14 @@ use Rattle.rules.specs.Answers.{numberOf}
 use Rattle.ledger.specs.RecordNumbers.{recordAt}
 use Rattle.settlement.specs.declared.Reply.{Reply}
 use Rattle.file.specs.declared.fields.Phase.{Phase}
-use Rattle.file.specs.Lines.{bookLine, refusedLine}
-use Rattle.file.specs.Program.{recordLines}
+use Rattle.file.specs.Lines.{bookLine, refusedLine, longestLine}
+use Rattle.file.specs.Program.{recordPlaces, recordLines}
 use Rattle.runner.specs.declared.Progress.{Progress}
 use Rattle.runner.specs.declared.Advanced.{Advanced}
 
--- no field prints more than 1,024 lines
+-- no field prints more than a line for each record of a round
 abbrev pub longestText : ℕ
-longestText = 138240
+longestText = recordPlaces * longestLine
 
 -- no message has a greater number
 abbrev pub lastNumber : ℕ

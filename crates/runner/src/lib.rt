@@ -25,14 +25,16 @@ use crate::parts::ends_of;
 use crate::texts::message_done;
 use crate::texts::opening_done;
 use file::fields::Phase;
+use file::output::LONGEST_LINE;
 use file::reader::find;
 use recording::opening::fresh_book;
 use rules::Book;
+use rules::MOST_LINES;
 use settlement::message;
 use validation::questions::number;
 
-// Room for the longest text of a field: 1,024 lines.
-pub const LONGEST_TEXT: usize = 138240;
+// Room for the longest text of a field: a line for each record of a round.
+pub const LONGEST_TEXT: usize = MOST_LINES * LONGEST_LINE;
 
 // How far a run has come.
 pub struct Progress {

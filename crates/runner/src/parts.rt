@@ -8,6 +8,7 @@ ghost use Rattle.rules.specs.Lent.{Lists, lendElements, lendTables, left, was};
 ghost use Rattle.recording.specs.Opened.{cleared};
 ghost use Rattle.file.specs.Program.{settleAnswer};
 ghost use Rattle.runner.specs.Parts.{Sized, Fitted, endsOf, fronts, frontsOpening, elementsAnswer};
+use calendar::LONGEST_MONTH;
 use calendar::days_in_month;
 use pricing::elements_right;
 use recording::opening::clear_tables;
@@ -30,7 +31,7 @@ pub const DATA_PLACES: usize = MOST_ELEMENTS as usize * ELEMENT_SIZE;
 
 pub const PRICE_TABLE_PLACES: usize = MOST_ELEMENTS as usize * PRICE_PLACES;
 
-pub const READING_PLACES: usize = BLOCK_PLACES * 31 * HOUR_PLACES;
+pub const READING_PLACES: usize = BLOCK_PLACES * LONGEST_MONTH * HOUR_PLACES;
 
 pub const BLOCK_PLACES: usize = SETTLE_POINTS as usize;
 

@@ -1,12 +1,17 @@
 // `settle` reads a month's file from standard input and prints the book's line, its records and its refusals. The input comes in pieces
 // through one buffer; what is printed for it is what `runner::run` promises. A write that fails ends the run.
 ghost use mathlib.Core.Path.{_≡_};
-ghost use Prim.Native.Nat.{_-_, _≤_};
+ghost use Prim.Native.Nat.{_-_, _*_, _≤_};
 ghost use lib.ListN.{length, take, drop};
+ghost use Rattle.calendar.specs.Gregorian.{longestMonth};
+ghost use Rattle.rules.specs.Sizes.{hourPlaces, recordSize};
 ghost use Rattle.rules.specs.Lent.{left, was};
+ghost use Rattle.file.specs.Program.{recordPlaces, settlePoints};
+ghost use Rattle.runner.specs.Texts.{longestText};
 use libc::STDIN_FILENO;
 use libc::STDOUT_FILENO;
 use rules::PLACES;
+use runner::LONGEST_TEXT;
 use runner::begin;
 use runner::parts::BLOCK_PLACES;
 use runner::parts::DATA_PLACES;
@@ -42,22 +47,24 @@ fn read_more(buffer: &mut [u8], have: usize) -> usize
 }
 
 fn no_readings() -> [u32; READING_PLACES]
-    ensures { λ r. ⌜ 11904 ≡ length r ⌝ }
+    ensures { λ r. ⌜ settlePoints * longestMonth * hourPlaces ≡ length r ⌝ }
 {
     [0; READING_PLACES]
 }
 
 fn no_records() -> [i64; RECORD_PLACES]
-    ensures { λ r. ⌜ 6144 ≡ length r ⌝ }
+    ensures { λ r. ⌜ recordPlaces * recordSize ≡ length r ⌝ }
 {
     [0; RECORD_PLACES]
 }
 
 // Room for the longest text of a field, and as much again, so that not every field is written by itself.
-fn no_text() -> [u8; 262144]
-    ensures { λ r. ⌜ 262144 ≡ length r ⌝ }
+const TEXT_PLACES: usize = 2 * LONGEST_TEXT;
+
+fn no_text() -> [u8; TEXT_PLACES]
+    ensures { λ r. ⌜ 2 * longestText ≡ length r ⌝ }
 {
-    [0; 262144]
+    [0; TEXT_PLACES]
 }
 
 // A proved loop has to end, and nothing says that the input does: the loop counts its turns down, from a number that no run uses up.

@@ -6,8 +6,9 @@ use mathlib.Core.List.{List}
 use lib.IntN.{ℤ}
 use lib.ListN.{length}
 use Rattle.rules.specs.declared.Book.{Book}
+use Rattle.rules.specs.Sizes.{recordSize}
 use Rattle.rules.specs.World.{World}
-use Rattle.rules.specs.Lent.{worldIn, lendElements, lendTables, nothing}
+use Rattle.rules.specs.Lent.{worldIn, lendElements, lendTables, noLists}
 use Rattle.history.specs.Runs.{messagesOf, Followed}
 use Rattle.history.proofs.Turns.{followed-none, count-fits, list-long, next-fits, answered-same, followed-turn}
 use Rattle.history.proofs.Tails.{replied-tail}
@@ -19,7 +20,7 @@ use Rattle.history.proofs.run.Tie as tie
 -- the world of a book and of the tables as they are
 abbrev world : Book → List ℕ → List ℤ → (links holders states readings blocks : List ℕ) → (lines sent : List ℤ) → World
 world b ds ps links holders states readings blocks lines sent =
-    worldIn b (lendElements ds ps (lendTables links holders states readings blocks lines sent nothing))
+    worldIn b (lendElements ds ps (lendTables links holders states readings blocks lines sent noLists))
 
 abbrev Inv-loop : tie.InvT-loop
 Inv-loop element-data prices links₀ holders₀ states₀ readings₀ blocks₀ lines₀ sent₀ records₀ inputs answers₀ n after₀ count₀ i₀ links holders states readings blocks lines sent records answers after count i =
@@ -50,7 +51,7 @@ long : (s : tie.Start Inv-loop μ-loop) → (length (s .args .records .now) < 2 
 long s = s .good .1 .1 .1 .1 .1 .1 .1 .1 .1 .1 .0
 
 -- the records so far fit it, and it has its length
-fits : (c : Turn) → (c .before .loop .count * 6 ≤ length (start-of c .args .records .now)) × (length (c .before .loop .records) ≡ length (start-of c .args .records .now))
+fits : (c : Turn) → (c .before .loop .count * recordSize ≤ length (start-of c .args .records .now)) × (length (c .before .loop .records) ≡ length (start-of c .args .records .now))
 fits c =
     let k = count-fits _ _ _ _ _ _ _ _ (c .before .loop .inv .1) in
     (omega arith, list-long _ _ _ _ _ _ _ _ (c .before .loop .inv .1))
@@ -70,12 +71,12 @@ read-of c = search
 abbrev replied-of : tie.After-number Inv-loop μ-loop → Replying
 replied-of c = search
 
-next-count : (c : Replying) → turn-of c .before .loop .count + c .message .result .records ≤ length (start-of (turn-of c) .args .records .now) / 6
+next-count : (c : Replying) → turn-of c .before .loop .count + c .message .result .records ≤ length (start-of (turn-of c) .args .records .now) / recordSize
 next-count c =
     let turn = turn-of c in
     let h = fits turn in
     next-fits _ _ _ _ _ _ _ _ (turn .before .loop .inv .1) _ _ _ _
-    (replied-tail _ _ _ _ (turn .before .loop .records) _ (turn .before .loop .count * 6) (omega arith) (c .message .ensures) .0)
+    (replied-tail _ _ _ _ (turn .before .loop .records) _ (turn .before .loop .count * recordSize) (omega arith) (c .message .ensures) .0)
 
 taken-requires : tie.Need-taken-requires Inv-loop μ-loop
 taken-requires c κs = search needs
@@ -175,7 +176,7 @@ loop-again c =
     let v = turn .before .loop .inv in
     let h = fits turn in
     let list = turn .before .loop .records in
-    let at = turn .before .loop .count * 6 in
+    let at = turn .before .loop .count * recordSize in
     let q = replied-tail _ _ _ _ list _ at (omega arith) (replied .message .ensures) in (
       omega arith,
       followed-turn _ _ _ _ _ _ _ _ _ (v .1) _ _ _ _ _ (omega arith) (read .fields-at .ensures) (q .0) (q .1) (numbered .number .ensures),

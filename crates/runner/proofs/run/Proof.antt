@@ -6,7 +6,7 @@ use Prim.Native.Nat.{ℕ, _-_, _*_}
 use lib.IntN.{ℤ}
 use lib.ListN.{length}
 use Rattle.rules.specs.Sizes.{recordSize}
-use Rattle.rules.specs.Lent.{Lists, given, lendElements, lendTables, nothing}
+use Rattle.rules.specs.Lent.{Lists, given, lendElements, lendTables, noLists}
 use Rattle.file.specs.Program.{recordPlaces}
 use Rattle.runner.proofs.RunLaws.{weight, Running, GoesOn, begins, goes-on, stands, turns, less, ends}
 use native.Mathlib.Omega.{arith}
@@ -17,7 +17,7 @@ use Rattle.runner.proofs.run.Tie as tie
 -- the tables as they are
 abbrev tables : List ℕ → List ℤ → (links holders states readings blocks : List ℕ) → (lines sent : List ℤ) → Lists
 tables ds ps links holders states readings blocks lines sent =
-    lendElements ds ps (lendTables links holders states readings blocks lines sent nothing)
+    lendElements ds ps (lendTables links holders states readings blocks lines sent noLists)
 
 abbrev Inv-loop : tie.InvT-loop
 Inv-loop s at ended element-data₀ prices₀ links₀ holders₀ states₀ readings₀ blocks₀ lines₀ sent₀ records₀ out₀ p₀ place₀ written₀ waits₀ element-data prices links holders states readings blocks lines sent records out p place written waits =

@@ -1,12 +1,15 @@
 -- Each turn leaves numbers and tables that stand for a stage of the run, and a buffer whose bytes are within it.
 use mathlib.Core.Path.{_≡_, refl, sym, _∙_}
-use Prim.Native.Nat.{ℕ, _≤_}
+use Prim.Native.Nat.{ℕ, _*_, _≤_}
 use mathlib.Core.List.{List}
 use lib.IntN.{ℤ}
 use lib.ListN.{length}
 use lib.Seq.{length-take-le}
-use Rattle.rules.specs.Lent.{Lists, lendElements, lendTables, nothing}
+use Rattle.rules.specs.Sizes.{recordSize}
+use Rattle.rules.specs.Lent.{Lists, lendElements, lendTables, noLists}
+use Rattle.file.specs.Program.{recordPlaces}
 use Rattle.runner.specs.Stages.{start}
+use Rattle.runner.specs.Texts.{longestText}
 use Rattle.runner.specs.Parts.{Sized}
 use Rattle.runner.specs.Holding.{Stands}
 use native.Mathlib.Omega.{arith}
@@ -17,13 +20,13 @@ use Rattle.settle.proofs.main.Tie as tie
 -- the tables as they are
 abbrev tables : List ℕ → List ℤ → (links holders states readings blocks : List ℕ) → (lines sent : List ℤ) → Lists
 tables ds ps links holders states readings blocks lines sent =
-    lendElements ds ps (lendTables links holders states readings blocks lines sent nothing)
+    lendElements ds ps (lendTables links holders states readings blocks lines sent noLists)
 
 abbrev Inv-loop : tie.InvT-loop
 Inv-loop element-data₀ prices₀ links₀ holders₀ states₀ readings₀ blocks₀ lines₀ sent₀ records₀ out₀ buffer₀ progress₀ have₀ ended₀ turns₀ element-data prices links holders states readings blocks lines sent records out buffer progress have ended turns =
     Sized (tables element-data prices links holders states readings blocks lines sent)
     × Stands progress (tables element-data prices links holders states readings blocks lines sent)
-    × (length buffer ≡ 65536) × (have ≤ 65536) × (length out ≡ 262144) × (length records ≡ 6144)
+    × (length buffer ≡ 65536) × (have ≤ 65536) × (length out ≡ 2 * longestText) × (length records ≡ recordPlaces * recordSize)
 
 abbrev μ-loop : tie.MeasureT-loop
 μ-loop element-data₀ prices₀ links₀ holders₀ states₀ readings₀ blocks₀ lines₀ sent₀ records₀ out₀ buffer₀ progress₀ have₀ ended₀ turns₀ element-data prices links holders states readings blocks lines sent records out buffer progress have ended turns =
@@ -80,7 +83,7 @@ loop-holds c =
         lines = refl;
         sent = refl;
       },
-      record { stage = start; holds = c .begin .ensures .0 nothing },
+      record { stage = start; holds = c .begin .ensures .0 noLists },
       sym (buffer .large-buffer .ensures),
       omega arith,
       sym (text .no-text .ensures),

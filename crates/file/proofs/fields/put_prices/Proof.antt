@@ -5,7 +5,7 @@ use mathlib.Core.Path.{_≡_, refl, ap, _∙_}
 use lib.ListN.{length, take, drop, length-set}
 use Rattle.rules.specs.Sizes.{pricePlaces}
 use Rattle.rules.specs.Basics.{listTo}
-use Rattle.file.specs.Element.{priceAt, pricesOf}
+use Rattle.file.specs.Element.{priceAt, pricesIn}
 use Rattle.file.specs.Bytes.{placed}
 use Rattle.file.proofs.PlacedLaws.{placed-none, placed-next}
 use Rattle.rules.proofs.Ranges.{length-listTo}
@@ -62,7 +62,7 @@ same-length : tie.Need-same-length Inv-loop μ-loop
 same-length c = search needs
 
 returns : tie.Need-returns Inv-loop μ-loop
-unfolding pricesOf
+unfolding pricesIn
 returns c =
     let start : tie.Start Inv-loop μ-loop = search in
     let a = start .args in

@@ -43,6 +43,7 @@ use denote.Triple.Walked.{says, needs, Stays, stay-none, stay-none-slice, walkOf
 use denote.Exit.{yes}
 use Rattle.rules.specs.declared.Record.{Record}
 use Rattle.rules.specs.Basics.{listTo}
+use Rattle.rules.specs.Sizes.{mostLines}
 use Rattle.rules.proofs.Record as T
 use Rattle.rules.proofs.Record.Laws as T′
 use Rattle.ledger.specs.RecordNumbers.{noRecord, recordAt, RecordPlaces}
@@ -70,11 +71,11 @@ C-put-list 𝓤 H A mem run = tripleOf 𝓤 H A put-list.signature (put-list.spe
 
 -- what the function asks
 abbrev Callable : (numbers : List ℤ) → (count : ℕ) → Type 0
-Callable ns n = (n ≤ 1024) × ((i : ℕ) → i < n → RecordPlaces ns i)
+Callable ns n = (n ≤ mostLines) × ((i : ℕ) → i < n → RecordPlaces ns i)
 
 -- the list as it is filled, and the machine value of an entry
 abbrev blank : List Record
-blank = replicate 1024 noRecord
+blank = replicate mostLines noRecord
 
 abbrev zeros : Val
 zeros = LL.val T.the-type T′.the-laws noRecord
@@ -84,15 +85,15 @@ zeros-is =
     LL.owes T.the-type T′.the-laws noRecord
     ((refl, lit< tt), ((refl, lit< tt), ((refl, lit< tt), ((refl, lit< tt), ((refl, lit< tt), ((refl, lit< tt), tt))))))
 
-blank-long : length blank ≡ 1024
-blank-long = length-replicate {A = Record} 1024 noRecord
+blank-long : length blank ≡ mostLines
+blank-long = length-replicate {A = Record} mostLines noRecord
 
-room-list : Room R 1024
+room-list : Room R mostLines
 room-list = (lit< tt, lit< tt)
 
 -- the types of a reference to the list, of the list as a slice, and of the lent slice
 abbrev τ-ref : Ty
-τ-ref = tyRef erased mut (tyArray (pointee (R .written)) 1024)
+τ-ref = tyRef erased mut (tyArray (pointee (R .written)) mostLines)
 
 abbrev τ-list : Ty
 τ-list = sliceTy (tyRef erased mut (pointee (R .written)))
@@ -123,9 +124,9 @@ module _ {M : Type 1} (𝓤 : URA M) (H : Heap 𝓤) (A : Atoms 𝓤) (W : Given
 
   module _ (count-is : Is usize count (vint w64 count ∷ [])) (pre : Callable (numbers .values) count) where
     exits : (zs : List Record) (v : Val) → AtFront zs
-        → ent 𝓤 (⋆ 𝓤 H A (‵ (Array R 1024 .own zs (v ∷ [])) ∷ ‵ (HadShared numbers (named 0)) ∷ [])) (Post v)
+        → ent 𝓤 (⋆ 𝓤 H A (‵ (Array R mostLines .own zs (v ∷ [])) ∷ ‵ (HadShared numbers (named 0)) ∷ [])) (Post v)
     exits zs v e =
-        qed W (‵ (Array R 1024 .own zs (v ∷ [])) ∷ ‵ (HadShared numbers (named 0)) ∷ []) ∵
+        qed W (‵ (Array R mostLines .own zs (v ∷ [])) ∷ ‵ (HadShared numbers (named 0)) ∷ []) ∵
         suffices ! _ (ends-at 𝓤 H A self.ended stayed (self.clauses 𝓤 H A mem run) W bound v zs (tt, (tt, tt)) (tt, (tt, tt))) $
         says ! e $ move ! (1 ∷ []) $ fsplit ! $ nothing ! $ move ! (2 ∷ 0 ∷ []) $ join ! $ frame ! $
         nothing ! $ owned ! usize (Is usize) (uint-makes 𝓤 H A W w64) count _ count-is $ fjoin ! $ move ! (1 ∷ 0 ∷ []) $ fjoin ! $ done !
@@ -136,10 +137,10 @@ module _ {M : Type 1} (𝓤 : URA M) (H : Heap 𝓤) (A : Atoms 𝓤) (W : Given
       rows-1 = MutSlice (named 0) (ν ∷ []) R ∷ ShrSlice (named 1) (numbers .lifetime) i64 ∷ usize ∷ []
 
       abbrev passed : Denots rows-1
-      passed = (at-local R 1024 b δ blank, (lent numbers, (count, tt)))
+      passed = (at-local R mostLines b δ blank, (lent numbers, (count, tt)))
 
       abbrev passed-vals : Valss rows-1
-      passed-vals = (val-local R 1024 b ∷ [], (val numbers ∷ [], (vint w64 count ∷ [], tt)))
+      passed-vals = (val-local R mostLines b ∷ [], (val numbers ∷ [], (vint w64 count ∷ [], tt)))
 
       abbrev κs : Lfts 2
       κs = (ν ∷ [], (numbers .lifetime, tt))
@@ -162,26 +163,26 @@ module _ {M : Type 1} (𝓤 : URA M) (H : Heap 𝓤) (A : Atoms 𝓤) (W : Given
 
       module _ (l0 l1 l2 l3 l4 l5 l6 l7 : ℕ) where
         abbrev E : Env 𝓤 H
-        E = (tyArray T′.mir 1024, l0) ∷ (τ-numbers, l1) ∷ (tyInt w64, l2) ∷ (tyArray T′.mir 1024, l3) ∷ (T′.mir, l4) ∷ (tyUnit, l5)
+        E = (tyArray T′.mir mostLines, l0) ∷ (τ-numbers, l1) ∷ (tyInt w64, l2) ∷ (tyArray T′.mir mostLines, l3) ∷ (T′.mir, l4) ∷ (tyUnit, l5)
             ∷ (τ-ref, l6) ∷ (τ-list, l7) ∷ []
 
         -- the parameters and the place of the result
         abbrev held : List (Item 𝓤)
         held = ‵ (fat fullShare (tyInt w64) l2 0 (vint w64 count)) ∷ ‵ (fdies (tyInt w64) l2)
             ∷ ‵ (fat fullShare τ-numbers l1 0 (val numbers)) ∷ ‵ (fdies τ-numbers l1)
-            ∷ ‵ (froom (tyArray T′.mir 1024) l0 0) ∷ ‵ (fdies (tyArray T′.mir 1024) l0) ∷ []
+            ∷ ‵ (froom (tyArray T′.mir mostLines) l0 0) ∷ ‵ (fdies (tyArray T′.mir mostLines) l0) ∷ []
 
         -- behind the call: the list is an array again, and is returned
-        returned : (zs : List Record) → length zs ≡ 1024 → AtFront zs
-            → Sq W (‵ (Elements R 1024 l3 zs) ∷ ‵ (HadShared numbers (named 0)) ∷ ‵ (froom τ-list l7 0) ∷ ‵ (fdies τ-list l7)
+        returned : (zs : List Record) → length zs ≡ mostLines → AtFront zs
+            → Sq W (‵ (Elements R mostLines l3 zs) ∷ ‵ (HadShared numbers (named 0)) ∷ ‵ (froom τ-list l7 0) ∷ ‵ (fdies τ-list l7)
             ∷ ‵ (froom τ-ref l6 0) ∷ ‵ (fdies τ-ref l6) ∷ ‵ (froom tyUnit l5 0) ∷ ‵ (fdies tyUnit l5) ∷ ‵ (froom T′.mir l4 0)
-            ∷ ‵ (fdies T′.mir l4) ∷ ‵ (fdies (tyArray T′.mir 1024) l3) ∷ held) (runs C Λ E mir.t-6 (atRet E Post))
+            ∷ ‵ (fdies T′.mir l4) ∷ ‵ (fdies (tyArray T′.mir mostLines) l3) ∷ held) (runs C Λ E mir.t-6 (atRet E Post))
         returned zs long e =
-            use1 W (some (λ (v : Val). ‵ (fat fullShare (tyArray T′.mir 1024) l3 0 v) ⊛ ‵ (Array R 1024 .own zs (v ∷ []))))
-            (gathers 𝓤 H A W R tt 1024 l3 _ (LL.tells T.the-type T′.the-laws) zs long) $ pick ! (λ v. split ! $ move ! (1 ∷ []) $
-            peeks ! (Array R 1024) (Is (Array R 1024)) (shows 𝓤 H A (Array R 1024)) zs (v ∷ []) (λ is.
+            use1 W (some (λ (v : Val). ‵ (fat fullShare (tyArray T′.mir mostLines) l3 0 v) ⊛ ‵ (Array R mostLines .own zs (v ∷ []))))
+            (gathers 𝓤 H A W R tt mostLines l3 _ (LL.tells T.the-type T′.the-laws) zs long) $ pick ! (λ v. split ! $ move ! (1 ∷ []) $
+            peeks ! (Array R mostLines) (Is (Array R mostLines)) (shows 𝓤 H A (Array R mostLines)) zs (v ∷ []) (λ is.
             assigns ! (of-opd ! (load ! (from ! (stop !)) (look ! 1 refl))) (from ! (stop !))
-            (init ! 16 refl (array-lawful 𝓤 H A W R (LL.lawful T.the-type T′.the-laws 𝓤 H A W) 1024 .typed zs _ is .0)) $
+            (init ! 16 refl (array-lawful 𝓤 H A W R (LL.lawful T.the-type T′.the-laws 𝓤 H A W) mostLines .typed zs _ is .0)) $
             returns ! (look ! 16 refl) $ forget ! 1 refl $ forget ! 12 refl $ forget ! 14 refl $ forget ! 16 refl $
             move ! (16 ∷ 17 ∷ []) $ free1 ! $ move ! (14 ∷ 15 ∷ []) $ free1 ! $ move ! (12 ∷ 13 ∷ []) $ free1 ! $
             move ! (1 ∷ 11 ∷ []) $ free1 ! $ move ! (8 ∷ 9 ∷ []) $ free1 ! $ move ! (6 ∷ 7 ∷ []) $ free1 ! $ move ! (4 ∷ 5 ∷ []) $ free1 ! $
@@ -190,20 +191,20 @@ module _ {M : Type 1} (𝓤 : URA M) (H : Heap 𝓤) (A : Atoms 𝓤) (W : Given
         -- the list is filled, lent to `put_list`, and taken back
         filled : Sq W (‵ (HadShared numbers (named 0)) ∷ ‵ (froom τ-list l7 0) ∷ ‵ (fdies τ-list l7) ∷ ‵ (froom τ-ref l6 0)
             ∷ ‵ (fdies τ-ref l6) ∷ ‵ (froom tyUnit l5 0) ∷ ‵ (fdies tyUnit l5) ∷ ‵ (froom T′.mir l4 0) ∷ ‵ (fdies T′.mir l4)
-            ∷ ‵ (froom (tyArray T′.mir 1024) l3 0) ∷ ‵ (fdies (tyArray T′.mir 1024) l3) ∷ held) (runs C Λ E mir.t-1 (atRet E Post))
+            ∷ ‵ (froom (tyArray T′.mir mostLines) l3 0) ∷ ‵ (fdies (tyArray T′.mir mostLines) l3) ∷ held) (runs C Λ E mir.t-1 (atRet E Post))
         filled =
             assigns ! (agg ! (and-then ! (lit ! tt) (and-then ! (lit ! tt) (and-then ! (lit ! tt) (and-then ! (lit ! tt)
             (and-then ! (lit ! tt) (and-then ! (lit ! tt) (no-more !)))))))) (from ! (stop !))
             (init ! 7 refl (LL.lawful T.the-type T′.the-laws 𝓤 H A W .typed noRecord _ zeros-is .0)) $
-            assigns ! (rep ! 1024 (load ! (from ! (stop !)) (look ! 7 refl))) (from ! (stop !)) (init ! 9 refl (array-lawful 𝓤 H A W R
-            (LL.lawful T.the-type T′.the-laws 𝓤 H A W) 1024 .typed blank _ (repeated R noRecord zeros zeros-is 1024) .0)) $
-            forget ! 7 refl $ move ! (9 ∷ []) $ use1 W (‵ (Elements R 1024 l3 blank))
-            (stands 𝓤 H A W R tt 1024 l3 (LL.makes T.the-type T′.the-plain 𝓤 H A) noRecord zeros zeros-is) $
+            assigns ! (rep ! mostLines (load ! (from ! (stop !)) (look ! 7 refl))) (from ! (stop !)) (init ! 9 refl (array-lawful 𝓤 H A W R
+            (LL.lawful T.the-type T′.the-laws 𝓤 H A W) mostLines .typed blank _ (repeated R noRecord zeros zeros-is mostLines) .0)) $
+            forget ! 7 refl $ move ! (9 ∷ []) $ use1 W (‵ (Elements R mostLines l3 blank))
+            (stands 𝓤 H A W R tt mostLines l3 (LL.makes T.the-type T′.the-plain 𝓤 H A) noRecord zeros zeros-is) $
             assigns ! (addr ! (from ! (stop !))) (from ! (stop !)) (init ! 4 refl (tt, tt)) $
             assigns ! (agg ! (and-then ! (load ! (from ! (stop !)) (look ! 4 refl))
             (and-then ! (big-lit ! (record { fits = lit< tt })) (no-more !)))) (from ! (stop !))
             (init ! 2 refl (tt, (tt, (record { fits = lit< tt }, tt)))) $
-            lends-local ! tt R 1024 l3 (named 0) blank blank-long room-list (λ ν δ. move ! (3 ∷ []) $ copies ! numbers (named 0) $
+            lends-local ! tt R mostLines l3 (named 0) blank blank-long room-list (λ ν δ. move ! (3 ∷ []) $ copies ! numbers (named 0) $
             nothing ! $ move ! (3 ∷ 0 ∷ []) $ fjoin ! $ move ! (5 ∷ 0 ∷ []) $ fjoin ! $ nothing ! $
             owned ! usize (Is usize) (uint-makes 𝓤 H A W w64) count _ count-is $ fjoin ! $ move ! (2 ∷ 0 ∷ []) $ fjoin ! $
             move ! (3 ∷ 0 ∷ []) $ fjoin ! $ move ! (1 ∷ 0 ∷ []) $
@@ -219,7 +220,7 @@ module _ {M : Type 1} (𝓤 : URA M) (H : Heap 𝓤) (A : Atoms 𝓤) (W : Given
             fsplit ! $ drop ! $ fsplit ! $ drop ! $ drop ! $ move ! (1 ∷ []) $ split ! $ fsplit ! $ move ! (1 ∷ []) $ fsplit ! $
             move ! (1 ∷ []) $ drop ! $ move ! (2 ∷ []) $
             feqL ! (λ is. land ! (from ! (stop !)) (init ! 9 refl (nothing-lawful 𝓤 H A W .typed tt _ is .0)) $ move ! (1 ∷ 4 ∷ 2 ∷ []) $
-            local-back ! tt R 1024 l3 ν δ (zs .0) $ move ! (2 ∷ 1 ∷ []) $ fjoin ! $ forget ! 2 refl $ forget ! 4 refl $ forget ! 6 refl $
+            local-back ! tt R mostLines l3 ν δ (zs .0) $ move ! (2 ∷ 1 ∷ []) $ fjoin ! $ forget ! 2 refl $ forget ! 4 refl $ forget ! 6 refl $
             move ! (1 ∷ []) $ returned (zs .0) (long ∙ blank-long) e)))))))
 
       walk : ent 𝓤 (onEntry 𝓤 H A self.signature (numbers .lifetime, tt) (numbers .share, tt) a vals)

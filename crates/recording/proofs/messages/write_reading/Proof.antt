@@ -1,6 +1,6 @@
 -- The place is that of the rules, and has a reading by the table's length.
 use Prim.Native.Nat.{_≤_}
-use Rattle.rules.specs.Lent.{lendReadings, nothing}
+use Rattle.rules.specs.Lent.{lendReadings, noLists}
 use Rattle.facts.proofs.ReadingLaws.{place-small}
 use Rattle.recording.proofs.Leaves.{reading-left}
 use borrow.Author.Needs.{needs}
@@ -17,7 +17,7 @@ mul-readings : tie.Need-mul-readings
 mul-readings c =
     let start : tie.Start = search in
     let a = start .args in
-    let o = lendReadings (a .readings .now) nothing in
+    let o = lendReadings (a .readings .now) noLists in
     let small = place-small (a .book) o (a .point) (a .day) (a .hour) (start .pre .of-month) in
     let small' : c .reading-place .result ≤ 1100000 = rw (c .reading-place .ensures o) small in
     search needs
@@ -25,7 +25,7 @@ mul-readings c =
 slice-write-readings : tie.Need-slice-write-readings
 slice-write-readings c =
     let start : tie.Start = search in
-    let o = lendReadings (start .args .readings .now) nothing in
+    let o = lendReadings (start .args .readings .now) noLists in
     rw (c .reading-place .ensures o) (start .pre .place o)
 
 same-length : tie.Need-same-length

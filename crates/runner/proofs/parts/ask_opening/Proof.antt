@@ -1,6 +1,6 @@
 -- Question 2 by its limits and by the points, then question 4: the tables have their lengths.
 use mathlib.Core.Path.{sym, _∙_}
-use Rattle.rules.specs.Lent.{Lists, lendElements, nothing}
+use Rattle.rules.specs.Lent.{Lists, lendElements, noLists}
 use Rattle.runner.specs.Parts.{fronts}
 use Rattle.runner.proofs.PartLaws.{limited-fitted}
 use Rattle.runner.proofs.OpenLaws.{unlimited, too-many-points, asked-elements}
@@ -22,7 +22,7 @@ ask-elements-requires c κs =
     let limited : tie.After-is-limited = search in
     let yes : tie.Then1 = search in
     let few : tie.Then2 = search in
-    (limited-fitted (start .args .book) nothing (sym (limited .is-limited .ensures nothing) ∙ yes .if1 .taken) (few .if2 .taken), start .pre)
+    (limited-fitted (start .args .book) noLists (sym (limited .is-limited .ensures noLists) ∙ yes .if1 .taken) (few .if2 .taken), start .pre)
 
 returns : tie.Need-returns
 returns c o =

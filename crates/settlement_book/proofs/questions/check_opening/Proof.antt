@@ -4,7 +4,7 @@ use Rattle.rules.specs.World.{World}
 use Rattle.rules.specs.WellFormed.{withinLimits, rowsFit, question2, question4}
 use Rattle.rules.specs.Effects.{ask}
 use Rattle.rules.specs.Opening.{openingAnswer}
-use Rattle.rules.specs.Lent.{Lists, worldIn, openingIn, tablesIn, lendElements, nothing}
+use Rattle.rules.specs.Lent.{Lists, worldIn, openingIn, tablesIn, lendElements, noLists}
 use Rattle.rules.proofs.Tests.{two-are, both}
 use Rattle.rules.proofs.Parts.{lengths-asked}
 use Rattle.settlement_book.proofs.Measures.{limits-any}
@@ -44,9 +44,9 @@ unfolding question2
 is-sized-requires c κs =
     let tested : tie.After-both = search in
     let s = start-of tested in
-    let t = lent s nothing in
+    let t = lent s noLists in
     limits-any (s .args .book) t
-    (both (withinLimits (openingIn (s .args .book) t)) (rowsFit (tablesIn (s .args .book) t)) (sym (limited tested nothing) ∙ c .if1 .taken) .0)
+    (both (withinLimits (openingIn (s .args .book) t)) (rowsFit (tablesIn (s .args .book) t)) (sym (limited tested noLists) ∙ c .if1 .taken) .0)
 
 elements-right-requires : tie.Need-elements-right-requires
 elements-right-requires c κs =

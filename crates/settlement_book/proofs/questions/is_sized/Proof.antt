@@ -3,7 +3,8 @@ use Prim.Native.Nat.{_*_, _≤_}
 use mathlib.Core.Path.{_∙_}
 use native.Mathlib.Nat.{mul-le-mul}
 use Rattle.calendar.proofs.MonthLaws.{days-range}
-use Rattle.rules.specs.Lent.{nothing}
+use Rattle.rules.specs.Sizes.{mostLines}
+use Rattle.rules.specs.Lent.{noLists}
 use Rattle.rules.proofs.Parts.{few-lines}
 use Rattle.settlement_book.proofs.Measures.{fitting-is}
 use native.Mathlib.Omega.{arith}
@@ -20,20 +21,20 @@ days-of c = search
 abbrev elements-of : tie.After-all-three → tie.After-both
 elements-of c = search
 
-lines-few : (s : tie.Start) → s .args .book .suppliers * s .args .book .elements ≤ 1024
-lines-few s = few-lines (s .args .book .suppliers) (s .args .book .elements) (s .pre nothing .suppliers) (s .pre nothing .elements)
+lines-few : (s : tie.Start) → s .args .book .suppliers * s .args .book .elements ≤ mostLines
+lines-few s = few-lines (s .args .book .suppliers) (s .args .book .elements) (s .pre noLists .suppliers) (s .pre noLists .elements)
 
 few-days : (c : tie.After-days-in-month) → start-of c .args .book .points * c .days-in-month .result ≤ 256 * 31
 few-days c =
     let a = start-of c .args in
     let d = days-range (a .book .year) (a .book .month) in
     let n : c .days-in-month .result ≤ 31 = rw (c .days-in-month .ensures) (d .1) in
-    mul-le-mul (start-of c .pre nothing .points) n
+    mul-le-mul (start-of c .pre noLists .points) n
 
 days-in-month-requires : tie.Need-days-in-month-requires
 days-in-month-requires c κs =
     let start : tie.Start = search in
-    start .pre nothing .month
+    start .pre noLists .month
 
 mul-count : tie.Need-mul-count
 mul-count c = let k = lines-few (start-of c) in omega arith
@@ -42,12 +43,12 @@ mul-count-2 : tie.Need-mul-count-2
 mul-count-2 c = let k = lines-few (start-of c) in omega arith
 
 mul-both : tie.Need-mul-both
-mul-both c = let l = start-of c .pre nothing .elements in omega arith
+mul-both c = let l = start-of c .pre noLists .elements in omega arith
 
 mul-both-2 : tie.Need-mul-both-2
 mul-both-2 c =
     let days : tie.After-days-in-month = search in
-    let l = start-of days .pre nothing .elements in
+    let l = start-of days .pre noLists .elements in
     omega arith
 
 both-requires : tie.Need-both-requires
