@@ -1,6 +1,6 @@
 -- What each message leaves: the table that changes is the rules', the other tables and numbers are as they were.
 use Prim.Native.Nat.{ℕ}
-use mathlib.Core.Path.{_≡_, refl, sym, ap, subst, _∙_}
+use mathlib.Core.Path.{_≡_, refl, sym, ap, ap₂, subst, _∙_}
 use mathlib.Core.List.{List, [], _∷_}
 use types.Run.{OneOf, miss}
 use denote.Enum.Declared.{tagOf}
@@ -11,7 +11,7 @@ use Rattle.rules.specs.declared.Body.the-variants.{Link, Stop, Quantity, Holder
 use Rattle.rules.proofs.Body.{the-type}
 use Rattle.rules.specs.Rows.{packPeriod, insertRow, stopRows, splitRows, packValue, recordRow}
 use Rattle.rules.specs.Sizes.{holderSize, stateSize}
-use Rattle.rules.specs.World.{Table, Tables, rowsOf, readingAt}
+use Rattle.rules.specs.World.{Opening, Table, Tables, rowsOf, readingAt}
 use Rattle.rules.specs.Effects.{withLinks, withHolders, withStates, withReadings, withBlocks, told}
 use Rattle.rules.specs.Lent.{Lists, worldIn, openingIn, tablesIn, lendLinks, lendHolders, lendStates, lendReadings, lendBlocks}
 use Rattle.tables.specs.Search.{Changed}
@@ -120,13 +120,20 @@ no-row rows (Reading p d h n) f k = absurd f
 no-row rows (Block p v) f h = absurd f
 no-row rows Round f h = absurd f
 
--- for callers: the whole world afterwards
+-- for callers: the whole world afterwards, where what the opening fixes is lent as before
 pub recorded-world : (b r : Book) (before after : Lists) (body : Body) → RecordedAs b before body r after
-    → after .elementData ≡ before .elementData → after .prices ≡ before .prices
+    → openingIn r after ≡ openingIn r before
     → worldIn r after
     ≡ record {
       opening = openingIn b before;
       position = record { tables = told (openingIn b before) (tablesIn b before) body; lines = after .lines };
       sent = record { totals = after .sent; round = b .round };
     }
-recorded-world b r before after body w d p = rw (← w .tables, ← w .opening, ← w .round, d, p)
+recorded-world b r before after body w same =
+    ap₂ (λ (x : Opening) (y : Tables).
+    record {
+      opening = x;
+      position = record { tables = y; lines = after .lines };
+      sent = record { totals = after .sent; round = r .round };
+    }) (same ∙ w .opening) (w .tables)
+    ∙ rw (w .round)

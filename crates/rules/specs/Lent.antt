@@ -6,7 +6,7 @@ use lib.IntN.{ℤ}
 use denote.Ref.{RefT, now}
 use denote.Triple.Both.{Both}
 use Rattle.rules.specs.declared.Book.{Book}
-use Rattle.rules.specs.World.{Opening, Tables, World, openingOf, tablesOf, worldOf}
+use Rattle.rules.specs.World.{Opening, Tables, World}
 
 -- every table that is lent
 pub record Lists : Type 0 where
@@ -35,16 +35,37 @@ noLists =
       sent = [];
     }
 
--- the world of a book and of what is lent with it, and its parts
-abbrev pub worldIn : Book → Lists → World
-worldIn b o =
-    worldOf b (o .elementData) (o .prices) (o .links) (o .holders) (o .states) (o .readings) (o .blocks) (o .lines) (o .sent)
+-- ---- the world of a book and of what is lent with it, and its parts
 
 abbrev pub openingIn : Book → Lists → Opening
-openingIn b o = openingOf b (o .elementData) (o .prices)
+openingIn b o =
+    record {
+      year = b .year;
+      month = b .month;
+      points = b .points;
+      suppliers = b .suppliers;
+      elements = b .elements;
+      elementData = o .elementData;
+      prices = o .prices;
+    }
 
 abbrev pub tablesIn : Book → Lists → Tables
-tablesIn b o = tablesOf b (o .links) (o .holders) (o .states) (o .readings) (o .blocks)
+tablesIn b o =
+    record {
+      links = record { used = b .periods; words = o .links };
+      holders = record { used = b .holders; words = o .holders };
+      states = record { used = b .states; words = o .states };
+      readings = o .readings;
+      blocks = o .blocks;
+    }
+
+abbrev pub worldIn : Book → Lists → World
+worldIn b o =
+    record {
+      opening = openingIn b o;
+      position = record { tables = tablesIn b o; lines = o .lines };
+      sent = record { totals = o .sent; round = b .round };
+    }
 
 -- a table as a `requires` sees it, and as an `ensures` sees it
 abbrev pub Ref : Type 0 → Type 0
@@ -104,6 +125,10 @@ lendElements ds ps o =
 
 abbrev pub lendData : (elementData : List ℕ) → Lists → Lists
 lendData ds o = lendElements ds (o .prices) o
+
+-- what a book's opening fixes where nothing but elements and prices is lent
+abbrev pub openingOf : Book → (elementData : List ℕ) → (prices : List ℤ) → Opening
+openingOf b ds ps = openingIn b (lendElements ds ps noLists)
 
 abbrev pub lendRows : (links holders states : List ℕ) → Lists → Lists
 lendRows links holders states o =

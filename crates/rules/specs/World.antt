@@ -52,38 +52,6 @@ pub record World : Type 0 where
   pub position : Position
   pub sent : Sent
 
--- the world of a book and of the tables that are lent with it, in the order in which they are lent
-abbrev pub openingOf : Book → (elementData : List ℕ) (prices : List ℤ) → Opening
-openingOf b elementData prices =
-    record {
-      year = b .year;
-      month = b .month;
-      points = b .points;
-      suppliers = b .suppliers;
-      elements = b .elements;
-      elementData = elementData;
-      prices = prices;
-    }
-
-abbrev pub tablesOf : Book → (links holders states readings blocks : List ℕ) → Tables
-tablesOf b links holders states readings blocks =
-    record {
-      links = record { used = b .periods; words = links };
-      holders = record { used = b .holders; words = holders };
-      states = record { used = b .states; words = states };
-      readings = readings;
-      blocks = blocks;
-    }
-
-abbrev pub worldOf : Book → (elementData : List ℕ) (prices : List ℤ) (links holders states readings blocks : List ℕ)
-    (lines sent : List ℤ) → World
-worldOf b elementData prices links holders states readings blocks lines sent =
-    record {
-      opening = openingOf b elementData prices;
-      position = record { tables = tablesOf b links holders states readings blocks; lines = lines };
-      sent = record { totals = sent; round = b .round };
-    }
-
 -- the book's own numbers
 abbrev pub bookOf : World → Book
 bookOf w =

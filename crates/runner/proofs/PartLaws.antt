@@ -16,7 +16,7 @@ use Rattle.rules.specs.declared.Book.{Book}
 use Rattle.rules.specs.declared.Body.{Body}
 use Rattle.rules.specs.declared.Fields.{Fields}
 use Rattle.rules.specs.Basics.{allTo}
-use Rattle.rules.specs.World.{Opening, World, openingOf}
+use Rattle.rules.specs.World.{Opening, World}
 use Rattle.rules.specs.WellFormed.{withinLimits, elementRight}
 use Rattle.rules.specs.Effects.{ask, posted, accepted, stepBy, step}
 use Rattle.rules.specs.Lent.{Lists, worldIn, openingIn, lendElements, lendTables}
@@ -143,12 +143,12 @@ points-stay a b o x f room e = ap (λ (w : World). w .opening .points) e ∙ ap 
 -- ---- question 4 of the parts
 
 pub elements-asked : (b : Book) (t : Lists) (e : Ends) → e ≡ endsOf b → (r : Bool)
-    → allTo (elementRight (openingOf b (take (e .described) (t .elementData)) (take (e .priced) (t .prices)))) (b .elements) ≡ r
+    → allTo (elementRight (openingIn b (cutTo e t))) (b .elements) ≡ r
     → cond r 0 4 ≡ elementsAnswer (frontsOpening b t)
 unfolding ask
 elements-asked b t e q r h =
     ap (λ (x : Bool). cond x 0 4) (sym h)
-    ∙ ap (λ (y : Ends). cond (allTo (elementRight (openingOf b (take (y .described) (t .elementData)) (take (y .priced) (t .prices)))) (b .elements)) 0 4) q
+    ∙ ap (λ (y : Ends). cond (allTo (elementRight (openingIn b (cutTo y t))) (b .elements)) 0 4) q
 
 -- ---- parts that were cleared
 

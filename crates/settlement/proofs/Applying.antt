@@ -141,13 +141,13 @@ module _ (b : Book) (o : Lists) (body : Body) (qs vs : List ℤ) (p : Rules (ope
 
   -- and what it writes is the rules' next position
   pub applied : question17 (worldIn b o) body ≡ true → (r : Book) (after : Lists) → RecordedAs b o body r after
-      → after .elementData ≡ o .elementData → after .prices ≡ o .prices → after .sent ≡ o .sent
+      → openingIn r after ≡ openingIn r o → after .sent ≡ o .sent
       → (lines : List ℤ) → lines ≡ after-lines → Applied (worldIn b o) (worldIn r (lendLines lines after)) body 0
   unfolding movedOn tablesAfter linesAfter ask
-  applied h r after x d y s lines e =
+  applied h r after x same s lines e =
       record {
         number-is = rw h;
-        world = rw h (recorded-world b r o (lendLines lines after) body (recorded-lines lines x) d y
+        world = rw h (recorded-world b r o (lendLines lines after) body (recorded-lines lines x) same
             ∙ ap₂ (λ (l z : List ℤ).
             record {
               opening = openingIn b o;

@@ -69,10 +69,10 @@ module _ (b : Book) (o : Lists) (p d h n : ℕ) (c : Whole (worldIn b o)) (out :
   asked = fits-is b o body _ _ own x (rw rows (g .fits))
 
   pub reading-applied : x ≡ true → (after : Lists) → RecordedAs b o body b after
-      → after .elementData ≡ o .elementData → after .prices ≡ o .prices → after .sent ≡ o .sent
+      → openingIn b after ≡ openingIn b o → after .sent ≡ o .sent
       → Applied (worldIn b o) (worldIn b (lendLines out after)) body 0
   unfolding ownLines
-  reading-applied f after r y z s = applied b o body _ _ own (asked ∙ f) b after r y z s out (rw f at (g .lines))
+  reading-applied f after r same s = applied b o body _ _ own (asked ∙ f) b after r same s out (rw f at (g .lines))
 
   pub reading-refused : x ≡ false → Applied (worldIn b o) (worldIn b (lendLines out o)) body 17
   reading-refused f =

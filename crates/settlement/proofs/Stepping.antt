@@ -189,7 +189,7 @@ block-applied b o c p v blocks e r k n z =
     record {
       number-is = rw h z;
       world = ap₂ (λ (x : Book) (y : List ℕ). worldIn x (lendBlocks y o)) k e
-          ∙ rw h (recorded-world b b o after (Block p v) (block-left b o p v) refl refl ∙ rw (lines-still w c (Block p v) same rows));
+          ∙ rw h (recorded-world b b o after (Block p v) (block-left b o p v) refl ∙ rw (lines-still w c (Block p v) same rows));
     }
 
 -- ---- message 8

@@ -4,7 +4,6 @@ use Prim.Native.Nat.{ℕ, zero, suc, _+_, _-_, _/_, _≤_, _<_, zero-le, suc-le-
 use mathlib.Core.Path.{_≡_, refl, sym, ap, _∙_}
 use mathlib.Core.Bool.{Bool, true, false, _&&_, false≢true}
 use mathlib.Core.List.{List, [], _∷_}
-use lib.IntN.{ℤ}
 use lib.Dec.{ltb, leb, eqb}
 use lib.ListN.{length, getD, take, drop, replicate, length-drop}
 use lib.Seq.{getD-take, length-take-le}
@@ -15,11 +14,11 @@ use Rattle.rules.specs.Sizes.{endOfDays, holderSize, mostQuantity, places, stat
 use Rattle.rules.specs.declared.Book.{Book}
 use Rattle.rules.specs.Basics.{within, chained, allIn}
 use Rattle.rules.specs.Rows.{periodPoint, periodElement, periodFirst, periodEnd, periodQuantity}
-use Rattle.rules.specs.World.{Opening, Table, openingOf, rowsOf, kindOf}
+use Rattle.rules.specs.World.{Opening, Table, rowsOf, kindOf}
 use Rattle.rules.specs.WellFormed.{periodRight, apart, valueRight, earlier, tableRight, linksRight, holdersRight, statesRight}
 use Rattle.rules.proofs.Tests.{tests, cases, both}
 use Rattle.rules.specs.Whole.{Whole}
-use Rattle.rules.specs.Lent.{Lists, worldIn, openingIn}
+use Rattle.rules.specs.Lent.{Lists, noLists, worldIn, openingIn, lendData}
 use Rattle.rules.proofs.Parts.{lengths, formed, table-ordered, links-run}
 use Rattle.tables.specs.Order.{Rising, nil, row, LinkRows, ValueRows, ClearBehind, TableRows}
 use Rattle.tables.specs.Tests.{isZero, rowFitsAt, kindAllows, daysRight}
@@ -127,16 +126,16 @@ period-parts o r = ap (λ (t : Bool). ltb (periodPoint r) (o .points) && (ltb (p
 
 -- ---- what is not looked at
 
-module _ (b : Book) (d : List ℕ) (ps : List ℤ) (t : Table) where
-  pub links-any : linksRight (openingOf b d ps) t ≡ linksRight (openingOf b d []) t
+module _ (b : Book) (o : Lists) (t : Table) where
+  pub links-any : linksRight (openingIn b (lendData (o .elementData) noLists)) t ≡ linksRight (openingIn b o) t
   unfolding linksRight tableRight periodRight kindOf
   links-any = refl
 
-  pub holders-any : holdersRight (openingOf b d ps) t ≡ holdersRight (openingOf b [] []) t
+  pub holders-any : holdersRight (openingIn b noLists) t ≡ holdersRight (openingIn b o) t
   unfolding holdersRight tableRight valueRight
   holders-any = refl
 
-  pub states-any : statesRight (openingOf b d ps) t ≡ statesRight (openingOf b [] []) t
+  pub states-any : statesRight (openingIn b noLists) t ≡ statesRight (openingIn b o) t
   unfolding statesRight tableRight valueRight
   states-any = refl
 

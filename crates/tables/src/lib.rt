@@ -29,14 +29,14 @@ ghost use Rattle.rules.specs.Rows.{packValue, valuePoint, valueFirst, valueOf, 
 ghost use Rattle.rules.specs.Sizes.{mostPoints, places, elementSize, elementRoom, dayRoom, quantityRoom};
 ghost use Rattle.rules.specs.Basics.{latest, allIn};
 ghost use Rattle.rules.specs.Lines.{fee};
-ghost use Rattle.rules.specs.World.{tableOf, openingOf};
+ghost use Rattle.rules.specs.World.{tableOf};
 ghost use Rattle.rules.specs.WellFormed.{periodRight, apart, valueRight, earlier, tableRight, linksRight, holdersRight, statesRight};
 ghost use Rattle.tables.specs.Order.{pointRoom, OrderedRows, LinkRows, ValueRows, ClearBehind, PairFits, DayFits, PointFits};
 ghost use Rattle.tables.specs.Tests.{isZero, rowFitsAt, kindAllows, daysRight};
 ghost use Rattle.tables.specs.Search.{RowPlace, Covering, coveringRow, isGiven, endOn, nextRecorded, rowFrom};
 ghost use Rattle.tables.specs.Search.{Changed, cutRow, cutBefore, putIn, without, moved};
 ghost use Rattle.tables.specs.RowRange.{pointRows};
-ghost use Rattle.rules.specs.Lent.{left, was};
+ghost use Rattle.rules.specs.Lent.{Lists, noLists, openingIn, lendData, left, was};
 
 // The largest word of 64 bits, which no row reaches.
 const LARGEST_WORD: u64 = 18446744073709551615;
@@ -578,7 +578,7 @@ fn kind_allows(kind: u8, first: u64, end: u64, quantity: u64) -> bool
 // Is a period right by itself. Constant time.
 fn period_right(book: Book, element_data: &[u8], word: u64) -> bool
     requires { ⌜ length (now element_data) ≡ book .elements * elementSize ⌝ }
-    ensures { λ r. ⌜ r ≡ periodRight (openingOf book (was element_data) []) word ⌝ }
+    ensures { λ r. ⌜ r ≡ periodRight (openingIn book (lendData (was element_data) noLists)) word ⌝ }
 {
     let element = element_of(word);
     let first = first_of(word);
@@ -630,7 +630,7 @@ fn are_apart(word: u64, next: u64) -> bool
 fn period_fits(book: Book, element_data: &[u8], table: &[u64], i: usize) -> bool
     requires { ⌜ length (now element_data) ≡ book .elements * elementSize ⌝ }
     requires { ⌜ i < length (now table) ⌝ }
-    ensures { λ r. ⌜ r ≡ rowFitsAt apart (periodRight (openingOf book (was element_data) [])) (was table) i ⌝ }
+    ensures { λ r. ⌜ r ≡ rowFitsAt apart (periodRight (openingIn book (lendData (was element_data) noLists))) (was table) i ⌝ }
 {
     let word = table[i];
     if period_right(book, element_data, word) {
@@ -647,7 +647,8 @@ fn period_fits(book: Book, element_data: &[u8], table: &[u64], i: usize) -> bool
 pub fn links_right(book: Book, element_data: &[u8], table: &[u64], used: usize) -> bool
     requires { ⌜ length (now element_data) ≡ book .elements * elementSize ⌝ }
     requires { ⌜ used ≤ length (now table) ⌝ }
-    ensures { λ r. ⌜ r ≡ linksRight (openingOf book (was element_data) []) (record { used = used; words = was table }) ⌝ }
+    ensures { λ r. ⌜ ((o : Lists) →
+        r ≡ linksRight (openingIn book (lendData (was element_data) o)) (record { used = used; words = was table })) ⌝ }
 {
     let mut i = 0;
     while i < used {
@@ -663,7 +664,7 @@ pub fn links_right(book: Book, element_data: &[u8], table: &[u64], used: usize) 
 // Is a dated value right by itself: a point of the book, a day, and a value from low to high. Constant time.
 fn value_right(book: Book, size: u64, low: u64, high: u64, word: u64) -> bool
     requires { ⌜ 0 < size ⌝ }
-    ensures { λ r. ⌜ r ≡ valueRight size low high (openingOf book [] []) word ⌝ }
+    ensures { λ r. ⌜ r ≡ valueRight size low high (openingIn book noLists) word ⌝ }
 {
     let value = value_of(size, word);
     if book.points <= value_point_of(size, word) {
@@ -682,7 +683,7 @@ fn value_right(book: Book, size: u64, low: u64, high: u64, word: u64) -> bool
 fn value_fits(book: Book, size: u64, low: u64, high: u64, table: &[u64], i: usize) -> bool
     requires { ⌜ 0 < size ⌝ }
     requires { ⌜ i < length (now table) ⌝ }
-    ensures { λ r. ⌜ r ≡ rowFitsAt (earlier size) (valueRight size low high (openingOf book [] [])) (was table) i ⌝ }
+    ensures { λ r. ⌜ r ≡ rowFitsAt (earlier size) (valueRight size low high (openingIn book noLists)) (was table) i ⌝ }
 {
     let word = table[i];
     if value_right(book, size, low, high, word) {
@@ -699,7 +700,7 @@ fn value_fits(book: Book, size: u64, low: u64, high: u64, table: &[u64], i: usiz
 pub fn values_right(book: Book, size: u64, low: u64, high: u64, table: &[u64], used: usize) -> bool
     requires { ⌜ 0 < size ⌝ }
     requires { ⌜ used ≤ length (now table) ⌝ }
-    ensures { λ r. ⌜ r ≡ tableRight (earlier size) (valueRight size low high (openingOf book [] []))
+    ensures { λ r. ⌜ r ≡ tableRight (earlier size) (valueRight size low high (openingIn book noLists))
         (record { used = used; words = was table }) ⌝ }
 {
     let mut i = 0;
@@ -716,7 +717,7 @@ pub fn values_right(book: Book, size: u64, low: u64, high: u64, table: &[u64], u
 // Question 5 of the table of holders. Linear in the places.
 pub fn holders_right(book: Book, table: &[u64], used: usize) -> bool
     requires { ⌜ used ≤ length (now table) ⌝ }
-    ensures { λ r. ⌜ r ≡ holdersRight (openingOf book [] []) (record { used = used; words = was table }) ⌝ }
+    ensures { λ r. ⌜ ((o : Lists) → r ≡ holdersRight (openingIn book o) (record { used = used; words = was table })) ⌝ }
 {
     let high = book.suppliers;
     values_right(book, HOLDER_SIZE, 0, high, table, used)
@@ -725,7 +726,7 @@ pub fn holders_right(book: Book, table: &[u64], used: usize) -> bool
 // Question 5 of the table of states. Linear in the places.
 pub fn states_right(book: Book, table: &[u64], used: usize) -> bool
     requires { ⌜ used ≤ length (now table) ⌝ }
-    ensures { λ r. ⌜ r ≡ statesRight (openingOf book [] []) (record { used = used; words = was table }) ⌝ }
+    ensures { λ r. ⌜ ((o : Lists) → r ≡ statesRight (openingIn book o) (record { used = used; words = was table })) ⌝ }
 {
     values_right(book, STATE_SIZE, NEW, CLOSED, table, used)
 }

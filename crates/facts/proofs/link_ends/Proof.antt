@@ -35,7 +35,7 @@ returns c o =
     let start : tie.Start = search in
     let link : tie.After-body = search in
     let kind : tie.After-kind-of = search in
-    rw (link .body .given .1, ← kind .kind-of .ensures (start .args .book) (o .prices)) (c .link-end .ensures)
+    rw (link .body .given .1, ← kind .kind-of .ensures (start .args .book) o) (c .link-end .ensures)
 
 returns-2 : tie.Need-returns-2
 returns-2 c o =

@@ -173,7 +173,7 @@ returns c =
           (done .post .ensures (lendLines (a .lines .now) o) (postable (a .book) (lent start o) (a .body) r)) in
           let q = fits-is (a .book) (lent start o) (a .body) _ _ p _ (tested .is-fitting .ensures (lent start o)) ∙ fits .if1 .taken in
           let w = wrote .write-rows .ensures (lent start o) (ended .link-ends .ensures (lent start o)) in
-          rw (e .0, e .1) (applied (a .book) (lent start o) (a .body) _ _ p q _ _ w refl refl refl _ (committed .commit-lines .ensures)),
+          rw (e .0, e .1) (applied (a .book) (lent start o) (a .body) _ _ p q _ _ w refl refl _ (committed .commit-lines .ensures)),
       e .2,
     )
 

@@ -60,7 +60,7 @@ returns c =
       λ o r.
           let g = settled .settle-reading .ensures (lendLines (a .lines .now) o) (postable (a .book) (lent start o) (body-of start) r) in
           rw (e .0, e .1) (reading-applied (a .book) (lent start o) _ _ _ _ (r .whole) _ _ g (fits .if1 .taken) _
-          (wrote .write-reading .ensures (lent start o)) refl refl refl),
+          (wrote .write-reading .ensures (lent start o)) refl refl),
       e .2,
     )
 

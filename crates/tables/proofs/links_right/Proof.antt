@@ -2,19 +2,18 @@
 use Prim.Native.Nat.{ℕ, _-_, _≤_, _<_}
 use mathlib.Core.Path.{_≡_, sym, _∙_}
 use mathlib.Core.Bool.{true}
-use mathlib.Core.List.{[]}
 use native.Mathlib.Omega.{arith}
 use borrow.Author.Needs.{needs}
-use Rattle.rules.specs.World.{openingOf}
+use Rattle.rules.specs.Lent.{openingIn, lendData, noLists}
 use Rattle.rules.specs.WellFormed.{apart, periodRight, linksRight}
 use Rattle.tables.specs.Tests.{rowFitsAt}
-use Rattle.tables.proofs.Right.{table-rest, table-not, one-more}
+use Rattle.tables.proofs.Right.{table-rest, table-not, one-more, links-any}
 use Rattle.tables.proofs.links_right.Statement.{statement}
 use Rattle.tables.proofs.links_right.Tie as tie
 
 abbrev Inv-loop : tie.InvT-loop
 Inv-loop book element-data table used i₀ i =
-    (i ≤ used) × ((k : ℕ) → k < i → rowFitsAt apart (periodRight (openingOf book element-data [])) table k ≡ true)
+    (i ≤ used) × ((k : ℕ) → k < i → rowFitsAt apart (periodRight (openingIn book (lendData element-data noLists))) table k ≡ true)
 
 abbrev μ-loop : tie.MeasureT-loop
 μ-loop book element-data table used i₀ i = used - i
@@ -37,33 +36,35 @@ loop-again c =
     let start : tie.Start Inv-loop μ-loop = search in
     let l = at-loop .loop in
     let a = start .args in
-    let right = periodRight (openingOf (a .book) (a .element-data .now) []) in
+    let right = periodRight (openingIn (a .book) (lendData (a .element-data .now) noLists)) in
     let fits = sym (c .before .period-fits .ensures) ∙ c .if1 .taken in
     (omega arith, one-more (rowFitsAt apart right (a .table .now)) (l .i) (l .inv .1) fits)
 
 returns : tie.Need-returns Inv-loop μ-loop
 unfolding linksRight
-returns c =
+returns c o =
     let at-loop : tie.At-loop Inv-loop μ-loop = search in
     let start : tie.Start Inv-loop μ-loop = search in
     let l = at-loop .loop in
     let a = start .args in
-    let right = periodRight (openingOf (a .book) (a .element-data .now) []) in
+    let right = periodRight (openingIn (a .book) (lendData (a .element-data .now) noLists)) in
     let fits = sym (c .before .period-fits .ensures) ∙ c .if1 .left in
     table-not apart right (a .table .now) (a .used) (start .pre .1) (l .i) (omega arith) fits
+    ∙ links-any (a .book) (lendData (a .element-data .now) o) _
 
 zeros-behind-requires : tie.Need-zeros-behind-requires Inv-loop μ-loop
 zeros-behind-requires c κs = search needs
 
 returns-2 : tie.Need-returns-2 Inv-loop μ-loop
 unfolding linksRight
-returns-2 c =
+returns-2 c o =
     let l = c .before .before .loop in
     let start : tie.Start Inv-loop μ-loop = search in
     let a = start .args in
-    let right = periodRight (openingOf (a .book) (a .element-data .now) []) in
+    let right = periodRight (openingIn (a .book) (lendData (a .element-data .now) noLists)) in
     c .zeros-behind .ensures
     ∙ table-rest apart right (a .table .now) (a .used) (start .pre .1) (λ k h. l .inv .1 k (omega arith))
+    ∙ links-any (a .book) (lendData (a .element-data .now) o) _
 
 pub links-right-spec : {M : Type 1} → statement M
 links-right-spec =

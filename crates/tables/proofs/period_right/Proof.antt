@@ -1,14 +1,14 @@
 -- `tables::period_right` meets its contract: the tests of the definition, those of the days and of the kind taken together.
 use mathlib.Core.Path.{_≡_, sym, _∙_}
 use mathlib.Core.Bool.{true, false}
-use mathlib.Core.List.{[]}
 use lib.Dec.{ltb}
 use native.Mathlib.Omega.{arith}
 use borrow.Author.Needs.{needs}
 use Rattle.rules.proofs.Tests.{tests}
 use Rattle.rules.specs.Rows.{periodPoint, periodElement, periodFirst, periodEnd, periodQuantity}
 use Rattle.rules.proofs.Words.{first-lt}
-use Rattle.rules.specs.World.{openingOf, kindOf}
+use Rattle.rules.specs.Lent.{openingIn, lendData, noLists}
+use Rattle.rules.specs.World.{kindOf}
 use Rattle.tables.specs.Tests.{daysRight}
 use Rattle.tables.proofs.Right.{period-parts}
 use Rattle.tables.proofs.period_right.Statement.{statement}
@@ -34,7 +34,7 @@ returns c =
     let start : tie.Start = search in
     let a = start .args in
     let p : ltb (periodPoint (a .word)) (a .book .points) ≡ false = omega (arith, tests) in
-    rw (period-parts (openingOf (a .book) (a .element-data .now) []) (a .word), p)
+    rw (period-parts (openingIn (a .book) (lendData (a .element-data .now) noLists)) (a .word), p)
 
 returns-2 : tie.Need-returns-2
 returns-2 c =
@@ -42,7 +42,7 @@ returns-2 c =
     let a = start .args in
     let p : ltb (periodPoint (a .word)) (a .book .points) ≡ true = omega (arith, tests) in
     let e : ltb (periodElement (a .word)) (a .book .elements) ≡ false = omega (arith, tests) in
-    rw (period-parts (openingOf (a .book) (a .element-data .now) []) (a .word), p, e)
+    rw (period-parts (openingIn (a .book) (lendData (a .element-data .now) noLists)) (a .word), p, e)
 
 days-right-requires : tie.Need-days-right-requires
 days-right-requires c κs = search needs
@@ -74,7 +74,7 @@ returns-3 c =
     = rw (after-first-of .first-of .ensures, after-end-of .end-of .ensures, after-quantity-of .quantity-of .ensures)
     at (sym (after-days-right .days-right .ensures) ∙ c .before .before .if3 .taken) in
     let after-element-of : tie.After-element-of = search in
-    rw (period-parts (openingOf (a .book) (a .element-data .now) []) (a .word), p, e, d, c .kind-allows .ensures)
+    rw (period-parts (openingIn (a .book) (lendData (a .element-data .now) noLists)) (a .word), p, e, d, c .kind-allows .ensures)
     (rw (after-first-of .first-of .ensures, after-end-of .end-of .ensures, after-quantity-of .quantity-of .ensures)
     (rw (after-element-of .element-of .ensures)))
 
@@ -90,7 +90,7 @@ returns-4 c =
     let d : daysRight (periodFirst (a .word)) (periodEnd (a .word)) (periodQuantity (a .word)) ≡ false
     = rw (after-first-of .first-of .ensures, after-end-of .end-of .ensures, after-quantity-of .quantity-of .ensures)
     at (sym (c .before .days-right .ensures) ∙ c .if3 .left) in
-    rw (period-parts (openingOf (a .book) (a .element-data .now) []) (a .word), p, e, d)
+    rw (period-parts (openingIn (a .book) (lendData (a .element-data .now) noLists)) (a .word), p, e, d)
 
 pub period-right-spec : {M : Type 1} → statement M
 period-right-spec =

@@ -2,10 +2,9 @@
 use Prim.Native.Nat.{ℕ, _-_, _≤_, _<_}
 use mathlib.Core.Path.{_≡_, sym, _∙_}
 use mathlib.Core.Bool.{true}
-use mathlib.Core.List.{[]}
 use native.Mathlib.Omega.{arith}
 use borrow.Author.Needs.{needs}
-use Rattle.rules.specs.World.{openingOf}
+use Rattle.rules.specs.Lent.{openingIn, noLists}
 use Rattle.rules.specs.WellFormed.{earlier, valueRight}
 use Rattle.tables.specs.Tests.{rowFitsAt}
 use Rattle.tables.proofs.Right.{table-rest, table-not, one-more}
@@ -15,7 +14,7 @@ use Rattle.tables.proofs.values_right.Tie as tie
 abbrev Inv-loop : tie.InvT-loop
 Inv-loop book size low high table used i₀ i =
     (i ≤ used)
-    × ((k : ℕ) → k < i → rowFitsAt (earlier size) (valueRight size low high (openingOf book [] [])) table k ≡ true)
+    × ((k : ℕ) → k < i → rowFitsAt (earlier size) (valueRight size low high (openingIn book noLists)) table k ≡ true)
 
 abbrev μ-loop : tie.MeasureT-loop
 μ-loop book size low high table used i₀ i = used - i
@@ -38,7 +37,7 @@ loop-again c =
     let start : tie.Start Inv-loop μ-loop = search in
     let l = at-loop .loop in
     let a = start .args in
-    let right = valueRight (a .size) (a .low) (a .high) (openingOf (a .book) [] []) in
+    let right = valueRight (a .size) (a .low) (a .high) (openingIn (a .book) noLists) in
     let fits = sym (c .before .value-fits .ensures) ∙ c .if1 .taken in
     (omega arith, one-more (rowFitsAt (earlier (a .size)) right (a .table .now)) (l .i) (l .inv .1) fits)
 
@@ -48,7 +47,7 @@ returns c =
     let start : tie.Start Inv-loop μ-loop = search in
     let l = at-loop .loop in
     let a = start .args in
-    let right = valueRight (a .size) (a .low) (a .high) (openingOf (a .book) [] []) in
+    let right = valueRight (a .size) (a .low) (a .high) (openingIn (a .book) noLists) in
     let fits = sym (c .before .value-fits .ensures) ∙ c .if1 .left in
     table-not (earlier (a .size)) right (a .table .now) (a .used) (start .pre .1) (l .i) (omega arith) fits
 
@@ -60,7 +59,7 @@ returns-2 c =
     let l = c .before .before .loop in
     let start : tie.Start Inv-loop μ-loop = search in
     let a = start .args in
-    let right = valueRight (a .size) (a .low) (a .high) (openingOf (a .book) [] []) in
+    let right = valueRight (a .size) (a .low) (a .high) (openingIn (a .book) noLists) in
     c .zeros-behind .ensures
     ∙ table-rest (earlier (a .size)) right (a .table .now) (a .used) (start .pre .1) (λ k h. l .inv .1 k (omega arith))
 

@@ -3,7 +3,7 @@ use mathlib.Core.Path.{sym, ap, _∙_}
 use lib.Seq.{length-take-le}
 use Rattle.rules.specs.Lent.{lendElements}
 use Rattle.runner.specs.declared.parts.Ends.{Ends}
-use Rattle.runner.specs.Parts.{endsOf}
+use Rattle.runner.specs.Parts.{endsOf, cutTo}
 use Rattle.runner.proofs.PartLaws.{EndsFit, ends-fit, elements-asked}
 use native.Mathlib.Omega.{arith}
 use borrow.Author.Needs.{needs}
@@ -55,8 +55,9 @@ returns c o =
     let ends : tie.After-ends-of = search in
     let asked : tie.After-elements-right = search in
     let yes : tie.Then1 = search in
-    elements-asked (start .args .book) (lendElements (start .args .element-data .now) (start .args .prices .now) o) (ends .ends-of .result)
-    (ends .ends-of .ensures) _ (sym (asked .elements-right .ensures) ∙ yes .if1 .taken)
+    let t = lendElements (start .args .element-data .now) (start .args .prices .now) o in
+    elements-asked (start .args .book) t (ends .ends-of .result) (ends .ends-of .ensures) _
+    (sym (asked .elements-right .ensures (cutTo (ends .ends-of .result) t)) ∙ yes .if1 .taken)
 
 returns-2 : tie.Need-returns-2
 returns-2 c o =
@@ -64,8 +65,9 @@ returns-2 c o =
     let ends : tie.After-ends-of = search in
     let asked : tie.After-elements-right = search in
     let no : tie.Else1 = search in
-    elements-asked (start .args .book) (lendElements (start .args .element-data .now) (start .args .prices .now) o) (ends .ends-of .result)
-    (ends .ends-of .ensures) _ (sym (asked .elements-right .ensures) ∙ no .if1 .left)
+    let t = lendElements (start .args .element-data .now) (start .args .prices .now) o in
+    elements-asked (start .args .book) t (ends .ends-of .result) (ends .ends-of .ensures) _
+    (sym (asked .elements-right .ensures (cutTo (ends .ends-of .result) t)) ∙ no .if1 .left)
 
 pub ask-elements-spec : {M : Type 1} → statement M
 ask-elements-spec =

@@ -68,7 +68,7 @@ returns c o e =
     rw (
       sym (limited tested o) ∙ one .if1 .taken,
       sym (sized .is-sized .ensures (lent (start-of tested) o) e) ∙ two .if2 .taken,
-      sym (c .before .elements-right .ensures) ∙ c .if3 .taken,
+      sym (c .before .elements-right .ensures o) ∙ c .if3 .taken,
     )
 
 returns-2 : tie.Need-returns-2
@@ -81,7 +81,7 @@ returns-2 c o e =
     rw (
       sym (limited tested o) ∙ one .if1 .taken,
       sym (sized .is-sized .ensures (lent (start-of tested) o) e) ∙ two .if2 .taken,
-      sym (c .before .elements-right .ensures) ∙ c .if3 .left,
+      sym (c .before .elements-right .ensures o) ∙ c .if3 .left,
     )
 
 returns-3 : tie.Need-returns-3

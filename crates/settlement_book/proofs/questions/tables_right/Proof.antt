@@ -1,8 +1,7 @@
--- The tests of the tables, none of which looks at prices.
-use mathlib.Core.Path.{sym, _∙_}
+-- The tests of the tables, one by one.
 use Rattle.rules.specs.WellFormed.{tablesRight}
 use Rattle.rules.proofs.Tests.{three-are}
-use Rattle.tables.proofs.Right.{links-any, holders-any, states-any}
+use Rattle.rules.specs.Lent.{Lists, lendData}
 use borrow.Author.Needs.{needs}
 use Rattle.settlement_book.proofs.questions.tables_right.Statement.{statement}
 use Rattle.settlement_book.proofs.questions.tables_right.Tie as tie
@@ -44,6 +43,10 @@ states-of c = search
 abbrev start-of : tie.After-states-right → tie.Start
 start-of c = search
 
+-- the elements, and any other tables
+abbrev lent : tie.Start → Lists → Lists
+lent s o = lendData (s .args .element-data .now) o
+
 returns : tie.Need-returns
 unfolding tablesRight
 returns c o =
@@ -53,14 +56,8 @@ returns c o =
     let blocks = blocks-of rest in
     let readings = readings-of blocks in
     let states = states-of readings in
-    let a = start-of states .args in
-    let ds = a .element-data .now in
-    three-are (c .all-three2 .ensures)
-    (links .links-right .ensures ∙ sym (links-any (a .book) ds (o .prices) (record { used = a .book .periods; words = a .links .now })))
-    (holders .holders-right .ensures ∙ sym (holders-any (a .book) ds (o .prices) (record { used = a .book .holders; words = a .holders .now })))
-    (three-are (rest .all-three .ensures)
-    (states .states-right .ensures ∙ sym (states-any (a .book) ds (o .prices) (record { used = a .book .states; words = a .states .now })))
-    (readings .readings-right .ensures)
+    three-are (c .all-three2 .ensures) (links .links-right .ensures o) (holders .holders-right .ensures (lent (start-of states) o))
+    (three-are (rest .all-three .ensures) (states .states-right .ensures (lent (start-of states) o)) (readings .readings-right .ensures)
     (blocks .blocks-right .ensures))
 
 pub tables-right-spec : {M : Type 1} → statement M

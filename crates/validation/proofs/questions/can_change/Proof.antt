@@ -18,7 +18,7 @@ returns : tie.Need-returns
 unfolding ask question15 isTariff
 returns c o =
     let start : tie.Start = search in
-    rw (sym (c .before .kind-of .ensures (start .args .book) (o .prices)) ∙ c .if1 .taken)
+    rw (sym (c .before .kind-of .ensures (start .args .book) o) ∙ c .if1 .taken)
 
 returns-2 : tie.Need-returns-2
 unfolding ask question15 isTariff linkedOn rowsOf
@@ -26,7 +26,7 @@ returns-2 c o =
     let kind : tie.After-kind-of = search in
     let start : tie.Start = search in
     rw (
-      ← kind .kind-of .ensures (start .args .book) (o .prices),
+      ← kind .kind-of .ensures (start .args .book) o,
       ne-eqb _ _ (c .before .before .if1 .left),
       sym (c .before .quantity-on .ensures) ∙ c .if2 .taken,
     )
@@ -37,7 +37,7 @@ returns-3 c o =
     let kind : tie.After-kind-of = search in
     let start : tie.Start = search in
     rw (
-      ← kind .kind-of .ensures (start .args .book) (o .prices),
+      ← kind .kind-of .ensures (start .args .book) o,
       ne-eqb _ _ (c .before .before .if1 .left),
       ← c .before .quantity-on .ensures,
       ne-eqb _ _ (c .if2 .left),

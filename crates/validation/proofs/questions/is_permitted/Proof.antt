@@ -34,9 +34,9 @@ returns c o =
     let marks : tie.After-marks-of = search in
     c .may-link .ensures
     ∙ rw (
-      owner .owner-of .ensures (a .book) (o .prices),
-      kind .kind-of .ensures (a .book) (o .prices),
-      marks .marks-of .ensures (a .book) (o .prices),
+      owner .owner-of .ensures (a .book) o,
+      kind .kind-of .ensures (a .book) o,
+      marks .marks-of .ensures (a .book) o,
       c .before .holder-on .ensures t,
     ) (sym (may-is (openingIn (a .book) t) (tablesIn (a .book) t) (a .sender) (a .place)))
 
