@@ -75,20 +75,17 @@ module _ (b : Book) (t : Lists) (e : Ends) (q : e ≡ endsOf b) (s : Sized t) (g
   abbrev x : Lists
   x = lendTables links holders states readings blocks lines sent (cutTo e t)
 
-  abbrev parts : Lists
-  parts = lendElements (take (e .described) (t .elementData)) (take (e .priced) (t .prices)) x
-
-  message-world : (room : ℕ) → worldIn (r .book) parts ≡ step (worldIn b (cutTo e t)) f room
+  message-world : (room : ℕ) → worldIn (r .book) x ≡ step (worldIn b (cutTo e t)) f room
       → frontsWorld (r .book) (putBack e t x) ≡ step (frontsWorld b t) f room
   message-world room h =
-      let n : endsOf (r .book) ≡ e = ends-stay (r .book) b (cutTo e t) parts f room h ∙ sym q in
+      let n : endsOf (r .book) ≡ e = ends-stay (r .book) b (cutTo e t) x f room h ∙ sym q in
       ap (λ (y : Ends). worldIn (r .book) (cutTo y (putBack e t x))) n
       ∙ ap (worldIn (r .book)) (parts-back e t x (within b g e q t s) l)
       ∙ h ∙ ap (λ (y : Ends). step (worldIn b (cutTo y t)) f room) q
 
   pub arm-message : (at next number : ℕ) (bytes : List ℕ) (lent records : List ℤ) → length lent ≡ recordPlaces * recordSize
-      → Replied (worldIn b (cutTo e t)) (worldIn (r .book) parts) f r lent records
-      → Whole (worldIn (r .book) parts) → b .points ≤ settlePoints
+      → Replied (worldIn b (cutTo e t)) (worldIn (r .book) x) f r lent records
+      → Whole (worldIn (r .book) x) → b .points ≤ settlePoints
       → (out after : List ℕ) (from : ℕ) (a : Advanced) → Written longestText out after from (a .written) (replyText r number records)
       → a ≡ advancedTo Phase.Messages false (r .book) (number + 1) next (a .written)
       → Advances (moveOn at (messages (frontsWorld b t) number) (Message f next) bytes) (a .progress) (putBack e t x) out after (a .next) from (a .written)
@@ -100,7 +97,7 @@ module _ (b : Book) (t : Lists) (e : Ends) (q : e ≡ endsOf b) (s : Sized t) (g
       let c′ : Whole (step (frontsWorld b t) f recordPlaces) =
       subst (λ (y : World). Whole y) (p .world ∙ ap (step (worldIn b (cutTo e t)) f) room ∙ ap (λ (y : Ends). step (worldIn b (cutTo y t)) f recordPlaces) q) c in
       let text : replyText r number records ≡ answered (frontsWorld b t) f number =
-      reply-text (worldIn b (cutTo e t)) (worldIn (r .book) parts) f r lent records long p number
+      reply-text (worldIn b (cutTo e t)) (worldIn (r .book) x) f r lent records long p number
       ∙ ap (λ (y : Ends). answered (worldIn b (cutTo y t)) f number) q in
       record {
         holds = (
@@ -109,7 +106,7 @@ module _ (b : Book) (t : Lists) (e : Ends) (q : e ≡ endsOf b) (s : Sized t) (g
           rw (ap (λ (y : Advanced). y .progress .book) z) (record {
             world = sym w;
             whole = c′;
-            points = rw (points-stay (r .book) b (cutTo e t) parts f (roomIn lent) (p .world)) k;
+            points = rw (points-stay (r .book) b (cutTo e t) x f (roomIn lent) (p .world)) k;
           }),
           ap (λ (y : Advanced). y .progress .number) z ∙ add-one number,
         );

@@ -85,17 +85,8 @@ front-back n xs ys l h = take-at ys (drop n xs) n (l ∙ length-take-le n xs h)
 -- the tables with the parts x back in their places
 abbrev pub putBack : Ends → (before parts : Lists) → Lists
 putBack e t x =
-    record {
-      elementData = t .elementData;
-      prices = t .prices;
-      links = x .links;
-      holders = x .holders;
-      states = x .states;
-      readings = x .readings ++ drop (e .readings) (t .readings);
-      blocks = x .blocks ++ drop (e .blocks) (t .blocks);
-      lines = x .lines ++ drop (e .lines) (t .lines);
-      sent = x .sent ++ drop (e .lines) (t .sent);
-    }
+    lendTables (x .links) (x .holders) (x .states) (x .readings ++ drop (e .readings) (t .readings))
+    (x .blocks ++ drop (e .blocks) (t .blocks)) (x .lines ++ drop (e .lines) (t .lines)) (x .sent ++ drop (e .lines) (t .sent)) t
 
 -- parts that are as long as they were
 pub record AsLong (e : Ends) (t x : Lists) : Type 0 where
@@ -105,7 +96,8 @@ pub record AsLong (e : Ends) (t x : Lists) : Type 0 where
   pub sent : length (x .sent) ≡ length (take (e .lines) (t .sent))
 
 pub parts-back : (e : Ends) (t x : Lists) → Within e t → AsLong e t x
-    → cutTo e (putBack e t x) ≡ lendElements (take (e .described) (t .elementData)) (take (e .priced) (t .prices)) x
+    → cutTo e (putBack e t x)
+    ≡ lendTables (x .links) (x .holders) (x .states) (x .readings) (x .blocks) (x .lines) (x .sent) (cutTo e t)
 parts-back e t x v l =
     rw (
       front-back (e .readings) (t .readings) (x .readings) (l .readings) (v .readings),

@@ -48,7 +48,7 @@ counted-of c = search
 
 -- the list as it was lent
 long : (s : tie.Start Inv-loop μ-loop) → (length (s .args .records .now) < 2 ^ 64) × (length (s .args .records .now) * 8 < 2 ^ 63)
-long s = s .good .1 .1 .1 .1 .1 .1 .1 .1 .1 .1 .0
+long s = search
 
 -- the records so far fit it, and it has its length
 fits : (c : Turn) → (c .before .loop .count * recordSize ≤ length (start-of c .args .records .now)) × (length (c .before .loop .records) ≡ length (start-of c .args .records .now))
@@ -57,7 +57,7 @@ fits c =
     (omega arith, list-long _ _ _ _ _ _ _ _ (c .before .loop .inv .1))
 
 room-for-answers : (s : tie.Start Inv-loop μ-loop) → (length (s .args .answers .now) < 2 ^ 64) × (length (s .args .answers .now) * 8 < 2 ^ 63)
-room-for-answers s = s .good .1 .1 .1 .1 .1 .1 .1 .1 .1 .1 .1 .1 .0
+room-for-answers s = search
 
 abbrev Replying : Type 0
 Replying = tie.After-message Inv-loop μ-loop
@@ -190,25 +190,25 @@ loop-again c =
     )
 
 same-length : tie.Need-same-length Inv-loop μ-loop
-same-length c = c .before .loop .inv .2
+same-length c = let v = c .before .loop .inv in search
 
 same-length-2 : tie.Need-same-length-2 Inv-loop μ-loop
-same-length-2 c = c .before .loop .inv .3
+same-length-2 c = let v = c .before .loop .inv in search
 
 same-length-3 : tie.Need-same-length-3 Inv-loop μ-loop
-same-length-3 c = c .before .loop .inv .4
+same-length-3 c = let v = c .before .loop .inv in search
 
 same-length-4 : tie.Need-same-length-4 Inv-loop μ-loop
-same-length-4 c = c .before .loop .inv .5
+same-length-4 c = let v = c .before .loop .inv in search
 
 same-length-5 : tie.Need-same-length-5 Inv-loop μ-loop
-same-length-5 c = c .before .loop .inv .6
+same-length-5 c = let v = c .before .loop .inv in search
 
 same-length-6 : tie.Need-same-length-6 Inv-loop μ-loop
-same-length-6 c = c .before .loop .inv .7
+same-length-6 c = let v = c .before .loop .inv in search
 
 same-length-7 : tie.Need-same-length-7 Inv-loop μ-loop
-same-length-7 c = c .before .loop .inv .8
+same-length-7 c = let v = c .before .loop .inv in search
 
 same-length-8 : tie.Need-same-length-8 Inv-loop μ-loop
 same-length-8 c = list-long _ _ _ _ _ _ _ _ (c .before .loop .inv .1)
