@@ -1,8 +1,8 @@
 //! The book, and the calls of the exported functions: the one module with `unsafe`.
 //!
-//! Each exported function asks that its slices have the lengths named below and,
-//! where its name ends in `_within`, that the book is well formed (`Whole` in
-//! `crates/rules/specs/Whole.antt`). Both hold of every [`Book`]:
+//! Each exported function whose name ends in `_within` asks that its slices have the
+//! lengths named below and that the book is well formed (`Whole` in
+//! `crates/rules/specs/Whole.antt`); the others ask nothing. Both hold of every [`Book`]:
 //!
 //! - A `Book` comes from [`Book::open`] alone, or is a clone of one. It is made where
 //!   `settlement_book_open` answers 0, whose promise says that the nine numbers and
@@ -395,5 +395,59 @@ fn line_of([quantity, kroner, billionths]: [i64; 3]) -> Line {
         kroner,
         // Promised to be 0 to 999,999,999.
         billionths: billionths as u64,
+    }
+}
+
+#[cfg(test)]
+mod tests {
+    use super::*;
+
+    fn book() -> Book {
+        let month = Month {
+            year: 2024,
+            month: 3,
+        };
+        let counts = Counts {
+            points: 1,
+            suppliers: 2,
+            elements: 1,
+        };
+        let element = Element {
+            kind: 1,
+            owner: 1,
+            marks: 0,
+        };
+        Book::open(month, counts, &[element], &[0; 24]).unwrap()
+    }
+
+    /// The functions for any book ask nothing of their callers: numbers of another
+    /// length are question 3, and nothing else is written.
+    #[test]
+    fn other_lengths_are_question_3() {
+        let mut book = book();
+        let mut count = 7;
+        let round = [8, 2, 0, 8826, 0, 0, 0, 0];
+        let records = &mut [5i64; 6];
+        let answer = unsafe {
+            write_with!(
+                book,
+                settlement_book_message(records.as_mut_ptr(), 6, round.as_ptr(), 8, &mut count)
+            )
+        };
+        assert_eq!((answer, count, *records), (3, 0, [5; 6]));
+
+        let line = &mut [5i64; 2];
+        let answer = unsafe { read_with!(book, settlement_book_line(1, 0, line.as_mut_ptr(), 2)) };
+        assert_eq!((answer, *line), (3, [5; 2]));
+
+        let mut count = 7;
+        let rows = &mut [5u64; 1023];
+        let answer = unsafe {
+            read_with!(
+                book,
+                settlement_book_periods(0, 0, rows.as_mut_ptr(), 1023, &mut count)
+            )
+        };
+        assert_eq!((answer, count, *rows), (3, 0, [5; 1023]));
     }
 }
