@@ -12,7 +12,8 @@ use Rattle.file.specs.declared.fields.Found.{Found}
 use Rattle.file.specs.declared.fields.Found.the-variants.{Month, Element, Message, End, More, Broken}
 use Rattle.file.specs.Field.{fieldIn, fieldFrom}
 use Rattle.file.specs.Lines.{bookLine}
-use Rattle.file.specs.Program.{endedBy, recordPlaces, answered, messagesFrom, Heading, collected, lentFor, settleAnswer, elementsFrom, settled}
+use Rattle.file.specs.Program.{endedBy, recordPlaces, answered, messagesFrom, Heading, collected, lentFor}
+use Rattle.file.specs.Program.{settleAnswer, elementsFrom, settled}
 
 -- before tag 1; after it, with the values of the elements so far; after the opening, with the number of the next message; at the end
 pub data Stage : Type 0 where

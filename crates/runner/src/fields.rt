@@ -85,7 +85,7 @@ fn is_end(found: Found) -> bool
 // The run ends with question 1.
 fn refuse(book: Book, at: usize, out: &mut [u8], from: usize) -> Advanced
     requires { ⌜ from + longestLine ≤ length (now out) ⌝ }
-    ensures { λ r. ⌜ ((t : Lists) → Advances (broken at 1) (r .progress) t (was out) (left out) (r .next) from (r .written)) ⌝ }
+    ensures advances { λ r. ⌜ ((t : Lists) → Advances (broken at 1) (r .progress) t (was out) (left out) (r .next) from (r .written)) ⌝ }
     ensures done { λ r. ⌜ r .more ≡ false ⌝ }
 {
     let written = put_refused(out, from, 0, 1);
@@ -94,7 +94,7 @@ fn refuse(book: Book, at: usize, out: &mut [u8], from: usize) -> Advanced
 
 fn on_start(book: Book, found: Found, at: usize, out: &mut [u8], from: usize) -> Advanced
     requires { ⌜ (from + longestLine ≤ length (now out)) × (isMore found ≡ false) ⌝ }
-    ensures { λ r. ⌜ ((t : Lists) (bytes : List ℕ) →
+    ensures advances { λ r. ⌜ ((t : Lists) (bytes : List ℕ) →
         Advances (moveOn at start found bytes) (r .progress) t (was out) (left out) (r .next) from (r .written)) ⌝ }
     ensures done { λ r. ⌜ r .more ≡ false ⌝ }
 {
@@ -168,7 +168,8 @@ fn gather(
     requires { ⌜ (length (now element_data) ≡ mostElements * elementSize) × (length (now prices) ≡ mostElements * pricePlaces) ⌝ }
     requires { ⌜ Inside at (length (now s)) found × (isMore found ≡ false) × (isOther (openingTask found) ≡ true) ⌝ }
     requires { ⌜ from + longestLine ≤ length (now out) ⌝ }
-    ensures { λ r. ⌜ ((h : Heading) (values : List (List ℕ)) (o : Lists) → HoldsValues book (was element_data) (was prices) h values
+    ensures advances { λ r. ⌜ ((h : Heading) (values : List (List ℕ)) (o : Lists) →
+        HoldsValues book (was element_data) (was prices) h values
         → Advances (moveOn at (elements h values) found (was s)) (r .progress) (lendElements (left element_data) (left prices) o)
         (was out) (left out) (r .next) from (r .written)) ⌝ }
     ensures done { λ r. ⌜ r .more ≡ false ⌝ }
@@ -188,7 +189,7 @@ fn gather(
 // The end, or a field that is not in its place.
 fn finish(book: Book, found: Found, at: usize, out: &mut [u8], from: usize) -> Advanced
     requires { ⌜ (from + longestLine ≤ length (now out)) × (isMore found ≡ false) × (isOther (messageTask found) ≡ true) ⌝ }
-    ensures { λ r. ⌜ ((t : Lists) (w : World) (n : ℕ) (bytes : List ℕ) →
+    ensures advances { λ r. ⌜ ((t : Lists) (w : World) (n : ℕ) (bytes : List ℕ) →
         Advances (moveOn at (messages w n) found bytes) (r .progress) t (was out) (left out) (r .next) from (r .written)) ⌝ }
     ensures done { λ r. ⌜ r .more ≡ false ⌝ }
 {
