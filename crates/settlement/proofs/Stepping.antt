@@ -44,6 +44,10 @@ use Rattle.ledger.proofs.RoundLaws.{count-is, round-records, round-written, rou
 use Rattle.settlement.specs.declared.Reply.{Reply}
 use Rattle.settlement.specs.Replies.{roomIn, movedOn, Applied, withRound, Sending, Replied}
 
+-- what is lent with a well-formed book
+abbrev pub lists-whole : {b : Book} {o : Lists} → Whole (worldIn b o) → Lists
+lists-whole {o = o} w = o
+
 -- ---- answers that refuse and answers that accept
 
 module _ (w : World) (f : Fields) (room : ℕ) where

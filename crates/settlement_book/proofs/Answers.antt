@@ -46,6 +46,21 @@ use Rattle.settlement_book.proofs.Lists.{pair-length}
 not-zero : (n : ℕ) → false ≡ eqb n 0 → n ≢ 0
 not-zero n h k = let z : _≡_ {A = Bool} false true = h ∙ eq-eqb n 0 k in absurd (let x : _≡_ {A = ℕ} 0 1 = cc in omega arith)
 
+-- ---- what is lent is left to be found: the same lists with a book known by another name
+
+pub world-as : {a b : Book} {o : Lists} → a ≡ b → worldIn a o ≡ worldIn b o
+world-as {o = o} e = ap (λ (b : Book). worldIn b o) e
+
+pub whole-as : {a b : Book} {o : Lists} → a ≡ b → Whole (worldIn b o) → Whole (worldIn a o)
+whole-as {o = o} e h = subst (λ (b : Book). Whole (worldIn b o)) (sym e) h
+
+pub asked-as : {a b : Book} (o : Lists) {n : ℕ} → n ≡ askBook (worldIn a o) 0 → a ≡ b → n ≡ askBook (worldIn b o) 0
+asked-as o h e = h ∙ ap (λ (b : Book). askBook (worldIn b o) 0) e
+
+-- the lists of a book that was asked
+abbrev pub lists-asked : (a : Book) (o : Lists) {n : ℕ} → n ≡ askBook (worldIn a o) 0 → Lists
+lists-asked a o h = o
+
 -- ---- the line query
 
 module _ (w : World) (s e : ℕ) where

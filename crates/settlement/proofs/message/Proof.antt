@@ -6,12 +6,12 @@ use Rattle.rules.specs.World.{World}
 use Rattle.rules.specs.Answers.{numberOf}
 use Rattle.rules.specs.Messages.{understood}
 use Rattle.rules.specs.Effects.{isRound}
-use Rattle.rules.specs.Lent.{Lists, worldIn, given}
+use Rattle.rules.specs.Lent.{Lists, worldIn}
 use Rattle.validation.specs.Found.{foundMessage}
 use Rattle.validation.specs.Decided.{decidedIn}
 use Rattle.validation.proofs.Whole.{whole-readable, in-ranges}
 use Rattle.settlement.specs.Replies.{ReadyIn}
-use Rattle.settlement.proofs.Stepping.{replied-refused, replied-applied, replied-sent, replied-whole, answer-none, answer-refused, passed-ready, row-no-round, round-is, block-applied}
+use Rattle.settlement.proofs.Stepping.{lists-whole, replied-refused, replied-applied, replied-sent, replied-whole, answer-none, answer-refused, passed-ready, row-no-round, round-is, block-applied}
 use Rattle.rules.proofs.Parts.{lengths}
 use Rattle.recording.proofs.Passed.{block-fits, writes-row}
 use Rattle.ledger.proofs.RoundLaws.{settled}
@@ -22,9 +22,7 @@ use Rattle.settlement.proofs.message.Tie as tie
 
 -- everything that is lent, and the world of it
 abbrev lent : tie.Start → Lists
-lent s =
-    given (s .args .element-data) (s .args .prices) (s .args .links) (s .args .holders) (s .args .states) (s .args .readings)
-    (s .args .blocks) (s .args .lines) (s .args .sent)
+lent s = lists-whole (s .pre)
 
 abbrev world : tie.Start → World
 world s = worldIn (s .args .book) (lent s)
@@ -108,8 +106,8 @@ same-length-4 c = search needs
 
 returns-2 : tie.Need-returns-2
 returns-2 c =
-    let start : tie.Start = search in
     let read : tie.After-understood = search in
+    let start = start-of read in
     let asked : tie.After-decide = search in
     let numbered : tie.After-number = search in
     let no : tie.Then1 = search in

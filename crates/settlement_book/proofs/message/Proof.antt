@@ -1,24 +1,12 @@
 -- The questions of the book, then the message of a well-formed one.
 use mathlib.Core.Path.{refl, sym, ap, _∙_}
-use Rattle.rules.specs.declared.Book.{Book}
-use Rattle.rules.specs.World.{World}
 use Rattle.rules.specs.Answers.{numberOf}
-use Rattle.rules.specs.Lent.{Lists, worldIn, given}
 use Rattle.rules.proofs.BookLaws.{book-whole}
 use Rattle.settlement.proofs.Stepping.{replied-refused}
-use Rattle.settlement_book.proofs.Answers.{answer-book}
+use Rattle.settlement_book.proofs.Answers.{answer-book, world-as}
 use borrow.Author.Needs.{needs}
 use Rattle.settlement_book.proofs.message.Statement.{statement}
 use Rattle.settlement_book.proofs.message.Tie as tie
-
--- everything that is lent
-abbrev lent : tie.Start → Lists
-lent s =
-    given (s .args .element-data) (s .args .prices) (s .args .links) (s .args .holders) (s .args .states) (s .args .readings)
-    (s .args .blocks) (s .args .lines) (s .args .sent)
-
-abbrev world : tie.Start → World
-world s = worldIn (s .args .book) (lent s)
 
 abbrev start-of : tie.After-check-book → tie.Start
 start-of c = search
@@ -61,9 +49,9 @@ returns c =
     let start = start-of checked in
     let a = checked .check-book .ensures in
     let e = c .refused .ensures in
-    replied-refused (world start) _ (start .args .fields) _ (start .args .records .now) _ _
-    (answer-book (world start) (start .args .fields) _ (λ z. no .if1 .taken (numbered .number .ensures ∙ a ∙ z)))
-    (λ z. no .if1 .taken (numbered .number .ensures ∙ a ∙ z)) (ap numberOf (e .0) ∙ a) (ap (λ (b : Book). worldIn b (lent start)) (e .1)) refl (e .2)
+    replied-refused _ _ (start .args .fields) _ (start .args .records .now) _ _
+    (answer-book _ (start .args .fields) _ (λ z. no .if1 .taken (numbered .number .ensures ∙ a ∙ z)))
+    (λ z. no .if1 .taken (numbered .number .ensures ∙ a ∙ z)) (ap numberOf (e .0) ∙ a) (world-as (e .1)) refl (e .2)
 
 message-requires : tie.Need-message-requires
 message-requires c κs =
@@ -71,7 +59,7 @@ message-requires c κs =
     let numbered : tie.After-number = search in
     let yes : tie.Else1 = search in
     let start = start-of checked in
-    book-whole (world start) 0 (sym (checked .check-book .ensures) ∙ sym (numbered .number .ensures) ∙ yes .if1 .left) .0
+    book-whole _ 0 (sym (checked .check-book .ensures) ∙ sym (numbered .number .ensures) ∙ yes .if1 .left) .0
 
 same-length-8 : tie.Need-same-length-8
 same-length-8 c = search needs

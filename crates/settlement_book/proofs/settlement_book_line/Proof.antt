@@ -1,44 +1,19 @@
 -- The lengths of book and line, the questions of the book, then the query of a well-formed one.
 use mathlib.Core.Path.{_≡_, refl, sym, ap, _∙_}
-use Rattle.rules.specs.declared.Book.{Book}
-use Rattle.rules.specs.World.{World}
-use Rattle.rules.specs.Answers.{numberOf}
-use Rattle.rules.specs.Effects.{askBook}
-use Rattle.rules.specs.Lent.{Lists, worldIn, given}
-use Rattle.rules.specs.Whole.{Whole}
 use Rattle.rules.proofs.BookLaws.{book-whole}
-use Rattle.settlement_book.specs.Numbers.{bookIn}
-use Rattle.settlement_book.proofs.Answers.{line-no-book}
+use Rattle.settlement_book.proofs.Answers.{line-no-book, asked-as, lists-asked}
 use borrow.Author.Needs.{needs}
 use Rattle.settlement_book.proofs.settlement_book_line.Statement.{statement}
 use Rattle.settlement_book.proofs.settlement_book_line.Tie as tie
 
--- everything that is lent
-abbrev lent : tie.Start → Lists
-lent s =
-    given (s .args .element-data) (s .args .prices) (s .args .links) (s .args .holders) (s .args .states) (s .args .readings)
-    (s .args .blocks) (s .args .lines) (s .args .sent)
+abbrev named-of : tie.After-check-book → tie.After-book-of
+named-of c = search
 
-abbrev world : tie.Start → World
-world s = worldIn (bookIn (s .args .book .now)) (lent s)
-
--- what the questions of the book have said
 abbrev start-of : tie.After-check-book → tie.Start
 start-of c = search
 
-asked : (c : tie.After-check-book) → numberOf (c .check-book .result) ≡ askBook (world (start-of c)) 0
-asked c =
-    let named : tie.After-book-of = search in
-    c .check-book .ensures ∙ ap (λ (b : Book). askBook (worldIn b (lent (start-of c))) 0) (named .book-of .ensures)
-
 abbrev checked-of : tie.Then3 → tie.After-check-book
 checked-of c = search
-
--- where they pass, the book is well formed
-whole : (c : tie.Then3) → Whole (world (start-of (checked-of c)))
-whole c =
-    let numbered : tie.After-number3 = search in
-    book-whole _ 0 (sym (asked (checked-of c)) ∙ sym (numbered .number3 .ensures) ∙ c .if3 .taken) .0
 
 number-requires : tie.Need-number-requires
 number-requires c κs = search needs
@@ -70,7 +45,15 @@ settlement-book-line-within-requires c κs =
     let yes : tie.Then3 = search in
     let book : tie.Else1 = search in
     let line : tie.Else2 = search in
-    ((book .if1 .left, line .if2 .left), (lent (start-of (checked-of yes)), whole yes))
+    let numbered : tie.After-number3 = search in
+    let checked = checked-of yes in
+    let asked = asked-as _ (checked .check-book .ensures) (named-of checked .book-of .ensures) in (
+      (book .if1 .left, line .if2 .left),
+      (
+        lists-asked _ _ (checked .check-book .ensures),
+        book-whole _ 0 (sym asked ∙ sym (numbered .number3 .ensures) ∙ yes .if3 .taken) .0,
+      ),
+    )
 
 number-requires-4 : tie.Need-number-requires-4
 number-requires-4 c κs = search needs
@@ -83,8 +66,12 @@ returns-3 c =
     let yes : tie.Then3 = search in
     let book : tie.Else1 = search in
     let line : tie.Else2 = search in
-    let done : tie.After-settlement-book-line-within = search in (
-      λ _. done .settlement-book-line-within .ensures (lent (start-of (checked-of yes))) (whole yes),
+    let done : tie.After-settlement-book-line-within = search in
+    let numbered : tie.After-number3 = search in
+    let checked = checked-of yes in
+    let asked = asked-as _ (checked .check-book .ensures) (named-of checked .book-of .ensures) in (
+      λ _. done .settlement-book-line-within .ensures (lists-asked _ _ (checked .check-book .ensures))
+          (book-whole _ 0 (sym asked ∙ sym (numbered .number3 .ensures) ∙ yes .if3 .taken) .0),
       λ short. absurd (short (book .if1 .left, line .if2 .left)),
     )
 
@@ -96,7 +83,8 @@ returns-4 c =
     let book : tie.Else1 = search in
     let line : tie.Else2 = search in
     let start = start-of checked in (
-      λ _. line-no-book (world start) (start .args .supplier) (start .args .element) (checked .check-book .result) (asked checked)
+      λ _. line-no-book _ (start .args .supplier) (start .args .element) (checked .check-book .result)
+          (asked-as _ (checked .check-book .ensures) (named-of checked .book-of .ensures))
           (λ z. no .if3 .left (numbered .number3 .ensures ∙ z)) _ (c .number4 .ensures) (start .args .line .now),
       λ short. absurd (short (book .if1 .left, line .if2 .left)),
     )

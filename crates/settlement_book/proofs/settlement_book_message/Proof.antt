@@ -1,16 +1,9 @@
 -- The lengths of book and message; then the reply, said in numbers: the book that it names is put in the place of the lent one.
 use mathlib.Core.Path.{refl}
-use Rattle.rules.specs.Lent.{Lists, given}
 use Rattle.settlement_book.proofs.Answers.{replies-in}
 use borrow.Author.Needs.{needs}
 use Rattle.settlement_book.proofs.settlement_book_message.Statement.{statement}
 use Rattle.settlement_book.proofs.settlement_book_message.Tie as tie
-
--- everything that is lent
-abbrev lent : tie.Start → Lists
-lent s =
-    given (s .args .element-data) (s .args .prices) (s .args .links) (s .args .holders) (s .args .states) (s .args .readings)
-    (s .args .blocks) (s .args .lines) (s .args .sent)
 
 -- places on the way, from the last back to the first
 abbrev start-of : tie.After-book-of → tie.Start
@@ -97,7 +90,7 @@ returns-3 c =
     let numbered : tie.After-number3 = search in
     let replied = replied-of put in
     let start = start-of (named-of replied) in (
-      λ _. replies-in (lent start) _ (replied .message .result) (start .args .records .now) _ _ _ (named-of replied .book-of .ensures)
+      λ _. replies-in _ _ (replied .message .result) (start .args .records .now) _ _ _ (named-of replied .book-of .ensures)
           (fields-before replied .fields-of .ensures) (replied .message .ensures) (put .put-book .ensures) (numbered .number3 .ensures),
       λ short. absurd (short (book-sized replied .if1 .left, fields-sized replied .if2 .left)),
     )

@@ -1,18 +1,8 @@
 -- The reply, said in numbers: the book that it names is put in the place of the lent one.
-use mathlib.Core.Path.{sym, subst}
-use Rattle.rules.specs.declared.Book.{Book}
-use Rattle.rules.specs.Lent.{Lists, worldIn, given}
-use Rattle.rules.specs.Whole.{Whole}
-use Rattle.settlement_book.proofs.Answers.{put-whole, replies-in}
+use Rattle.settlement_book.proofs.Answers.{put-whole, replies-in, whole-as}
 use borrow.Author.Needs.{needs}
 use Rattle.settlement_book.proofs.settlement_book_message_within.Statement.{statement}
 use Rattle.settlement_book.proofs.settlement_book_message_within.Tie as tie
-
--- everything that is lent
-abbrev lent : tie.Start → Lists
-lent s =
-    given (s .args .element-data) (s .args .prices) (s .args .links) (s .args .holders) (s .args .states) (s .args .readings)
-    (s .args .blocks) (s .args .lines) (s .args .sent)
 
 -- places on the way, from the last back to the first
 abbrev start-of : tie.After-book-of → tie.Start
@@ -37,7 +27,7 @@ message-requires : tie.Need-message-requires
 message-requires c κs =
     let named : tie.After-book-of = search in
     let start = start-of named in
-    subst (λ (b : Book). Whole (worldIn b (lent start))) (sym (named .book-of .ensures)) (start .pre .1)
+    whole-as (named .book-of .ensures) (start .pre .1)
 
 put-book-requires : tie.Need-put-book-requires
 put-book-requires c κs =
@@ -80,7 +70,7 @@ returns c =
     let numbered : tie.After-number = search in
     let replied = replied-of put in
     let start = start-of (named-of replied) in (
-      replies-in (lent start) _ (replied .message .result) (start .args .records .now) _ _ _ (named-of replied .book-of .ensures)
+      replies-in _ _ (replied .message .result) (start .args .records .now) _ _ _ (named-of replied .book-of .ensures)
           (fields-before replied .fields-of .ensures) (replied .message .ensures .0) (put .put-book .ensures) (numbered .number .ensures),
       put-whole _ _ _ (put .put-book .ensures) (replied .message .ensures .1),
     )
