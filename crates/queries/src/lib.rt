@@ -1,6 +1,8 @@
 // The queries of a book that is well formed: the line of a supplier and an element, the periods of a point and an element, and a day
 // without a holder. Each asks its own questions, 6 to 8, but for the periods, which are handed the answer to theirs.
 ghost use mathlib.Core.Path.{_≡_};
+ghost use mathlib.Core.Logic.{_≢_};
+ghost use mathlib.Core.List.{[]};
 ghost use Prim.Native.Nat.{_+_, _-_, _*_, _≤_, _<_};
 ghost use lib.Dec.{ltb};
 ghost use Rattle.rules.specs.Basics.{within, anyTo};
@@ -80,9 +82,10 @@ pub fn line(book: Book, lines: &[i64], supplier: u64, element: u64) -> LineAnswe
 // what its questions have answered: 2 to 5 of the book, then 7 and 8 (`validation::questions::ask_pair`). Logarithmic in the rows.
 pub fn periods(asked: Answer, book: Book, links: &[u64], point: u64, element: u64) -> &[u64]
     requires { ⌜ (numberOf asked ≡ 0 → ((o : Lists) × periodsNumber (worldIn book (lendLinks (now links) o)) point element ≡ 0)) ⌝ }
-    ensures { λ r. ⌜ ((o : Lists) →
+    ensures answers { λ r. ⌜ ((o : Lists) →
         let w = worldIn book (lendLinks (was links) o) in
         numberOf asked ≡ periodsNumber w point element → now r ≡ periodsQuery w point element) ⌝ }
+    ensures refused { λ r. ⌜ (numberOf asked ≢ 0 → now r ≡ []) ⌝ }
 {
     if number(asked) == 0 {
         pair_part(links, book.periods as usize, point, element)

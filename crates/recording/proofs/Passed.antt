@@ -18,10 +18,11 @@ use Rattle.rules.proofs.Body.{the-type}
 use Rattle.rules.specs.World.{rowsOf, monthFirst, monthDays, readingAt}
 use Rattle.rules.specs.WellFormed.{readingCount}
 use Rattle.rules.specs.Questions.{pointOf}
+use Rattle.rules.specs.Effects.{writesRow}
 use Rattle.rules.specs.Ready.{Ready}
 use Rattle.rules.specs.Lent.{Lists, openingIn, tablesIn}
 use Rattle.rules.proofs.Passed.{own-quantity, own-reading, element-link, element-stop, element-quantity, point-inside}
-use Rattle.recording.specs.Recorded.{writesRow, RowFits, ReadingFits}
+use Rattle.recording.specs.Recorded.{RowFits, ReadingFits}
 
 module _ (b : Book) (o : Lists) where
   inside : (x : Body) (p : ℕ) → Ready (openingIn b o) (tablesIn b o) x → pointOf x ≡ some p → p < mostPoints

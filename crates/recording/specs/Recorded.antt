@@ -61,18 +61,7 @@ usingStates b n =
 
 -- ---- what is asked
 
--- messages 1 to 5 write a row
-unfoldable pub writesRow : Body → Bool
-writesRow (Link p e d q) = true
-writesRow (Stop p e d) = true
-writesRow (Quantity p e d q) = true
-writesRow (Holder p d h) = true
-writesRow (State p d s) = true
-writesRow (Reading p d h n) = false
-writesRow (Block p b) = false
-writesRow Round = false
-
--- with their fields within their ranges, and a quantity is for a linked day
+-- messages 1 to 5, with their fields within their ranges, and a quantity is for a linked day
 abbrev pub RowFits : (linkRows : List ℕ) → Body → Type 0
 RowFits rows (Link p e d q) = PairFits p e × DayFits d × (q < quantityRoom)
 RowFits rows (Stop p e d) = PairFits p e × DayFits d

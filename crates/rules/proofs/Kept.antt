@@ -13,7 +13,7 @@ use Rattle.rules.specs.declared.Body.the-variants.{Link, Stop, Quantity,
 use Rattle.rules.specs.Basics.{within, chained, allIn}
 use Rattle.rules.specs.Rows.{packPeriod, packValue, recordRow}
 use Rattle.rules.specs.World.{Opening, Tables, World, rowsOf, tableOf}
-use Rattle.rules.specs.Sizes.{places, endOfDays, holderSize, mostEnergy, stateSize}
+use Rattle.rules.specs.Sizes.{places, endOfDays, holderSize, lastRound, mostEnergy, stateSize}
 use Rattle.rules.specs.WellFormed.{withinLimits, rowsFit, openingSized, tablesSized, linesSized, periodRight, apart, valueRight, earlier, linksRight, holdersRight, statesRight, tablesRight, linesRight, question2, question3, question4, question5}
 use Rattle.rules.specs.Questions.{pointOf}
 use Rattle.rules.specs.Effects.{withLinks, withHolders, withStates, withReadings, withBlocks, linkEnd, told, movedLine, movedLines, isRound, sentAfter, tablesAfter, linesAfter, posted, question17}
@@ -170,9 +170,9 @@ sent-kept : (P : List ℤ → Bool) (w : World) (b : Body) → P (w .position .l
 unfolding sentAfter
 sent-kept P w b h k = cases (isRound b) (λ c. rw c h) (λ c. rw c k)
 
-next-round : (n : ℕ) → within 1 3 (min 3 (n + 1)) ≡ true
+next-round : (n : ℕ) → within 1 lastRound (min lastRound (n + 1)) ≡ true
 unfolding within
-next-round n = rw (le-leb 1 (min 3 (n + 1)) (omega arith), le-leb (min 3 (n + 1)) 3 (omega arith))
+next-round n = rw (le-leb 1 (min lastRound (n + 1)) (omega arith), le-leb (min lastRound (n + 1)) lastRound (omega arith))
 
 round-kept : (w : World) (b : Body) → within 1 3 (w .sent .round) ≡ true → within 1 3 (sentAfter w b .round) ≡ true
 unfolding sentAfter

@@ -95,6 +95,17 @@ isRound (Reading p d h n) = false
 isRound (Block p b) = false
 isRound Round = true
 
+-- messages 1 to 5 write a row of links, holders or states
+unfoldable pub writesRow : Body → Bool
+writesRow (Link p e d q) = true
+writesRow (Stop p e d) = true
+writesRow (Quantity p e d q) = true
+writesRow (Holder p d h) = true
+writesRow (State p d s) = true
+writesRow (Reading p d h n) = false
+writesRow (Block p b) = false
+writesRow Round = false
+
 -- how far a line has moved from what was sent
 unfoldable pub difference : World → Measure → (supplier element : ℕ) → ℤ
 difference w m s e = stored (w .opening) (w .position .lines) m s e -ℤ stored (w .opening) (w .sent .totals) m s e

@@ -20,10 +20,10 @@ use Rattle.rules.proofs.Parts.{few-lines, lengths}
 use Rattle.tables.proofs.Right.{whole-rows}
 use Rattle.posting.specs.Fits.{Room, beforeMessage}
 use Rattle.posting.specs.Kinds.{changeAt}
-use Rattle.posting.specs.Posted.{Posted, PostableIn, PostedIn, isReading}
+use Rattle.posting.specs.Posted.{Posted, PostableIn, PostedIn}
 use Rattle.posting.proofs.Sizes.{change-small}
 use Rattle.posting.proofs.WholeBook.{whole-book}
-use Rattle.recording.specs.Recorded.{RecordedAs, writesRow}
+use Rattle.recording.specs.Recorded.{RecordedAs}
 use Rattle.recording.proofs.Leaves.{recorded-world}
 use Rattle.ledger.specs.Added.{addedLines, Changes, ByRules}
 use Rattle.ledger.specs.Moved.{linesIn}
@@ -43,18 +43,6 @@ postable b o body r =
       holders = rows .holders;
       states = rows .states;
     }
-
--- messages 1 to 5 are no reading
-pub row-no-reading : (b : Body) → writesRow b ≡ true → isReading b ≡ false
-unfolding writesRow isReading
-row-no-reading (Link p e d q) h = refl
-row-no-reading (Stop p e d) h = refl
-row-no-reading (Quantity p e d q) h = refl
-row-no-reading (Holder p d v) h = refl
-row-no-reading (State p d v) h = refl
-row-no-reading (Reading p d k n) h = absurd (false≢true h)
-row-no-reading (Block p v) h = refl
-row-no-reading Round h = refl
 
 -- ---- tables of changes that begin at 0
 

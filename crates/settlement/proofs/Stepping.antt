@@ -23,7 +23,8 @@ use Rattle.rules.specs.Answers.{numberOf}
 use Rattle.rules.specs.World.{World, factsOf, holderOn, stateOn, energyOf}
 use Rattle.rules.specs.WellFormed.{rowsFit, withinLimits, question2}
 use Rattle.rules.specs.Messages.{understood, bodyIn}
-use Rattle.rules.specs.Effects.{told, withBlocks, isRound, written, records, tablesAfter, linesAfter, posted, ask, question17, question18, answerTo, answer, accepted, stepBy, step, writtenBy, recordsOf}
+use Rattle.rules.specs.Sizes.{lastRound}
+use Rattle.rules.specs.Effects.{told, withBlocks, isRound, writesRow, written, records, tablesAfter, linesAfter, posted, ask, question17, question18, answerTo, answer, accepted, stepBy, step, writtenBy, recordsOf}
 use Rattle.rules.specs.Lent.{Lists, worldIn, openingIn, tablesIn, lendMoney, lendBlocks}
 use Rattle.rules.specs.Whole.{Whole}
 use Rattle.rules.specs.Ready.{Ready}
@@ -34,7 +35,6 @@ use Rattle.rules.proofs.Passed.{behind, taken}
 use Rattle.rules.proofs.Kept.{posted-whole}
 use Rattle.validation.specs.Decided.{decided}
 use Rattle.validation.proofs.Next.{answer-decided, decided-passed, decided-refused}
-use Rattle.recording.specs.Recorded.{writesRow}
 use Rattle.recording.proofs.Leaves.{block-left, recorded-world}
 use Rattle.ledger.specs.Moved.{linesIn, lineRecords, movedCount}
 use Rattle.ledger.specs.RecordNumbers.{numbersAfter}
@@ -205,7 +205,7 @@ module _ (b : Book) (o : Lists) (c : Whole (worldIn b o)) where
   round-fits : question17 w Round ≡ true
   round-fits = still-fits w c Round (unfold told in refl) (unfold told in refl)
 
-  round-posted : (totals : List ℤ) → totals ≡ o .lines → (n : ℕ) → n ≡ min 3 (b .round + 1)
+  round-posted : (totals : List ℤ) → totals ≡ o .lines → (n : ℕ) → n ≡ min lastRound (b .round + 1)
       → worldIn (withRound b n) (lendMoney (o .lines) totals o) ≡ posted w Round
   unfolding posted tablesAfter told
   round-posted totals e n h = rw (lines-still w c Round (unfold told in refl) (unfold told in refl), round-sent w totals n e h)
@@ -219,12 +219,12 @@ module _ (b : Book) (o : Lists) (c : Whole (worldIn b o)) where
       answer-rest w c f (roomIn lent) m u p ∙ rw (d, round-fits) in
       cases (question18 w Round (roomIn lent))
       (λ t.
-      let k : r .book ≡ withRound b (min 3 (b .round + 1)) = g .book ∙ rw t in
+      let k : r .book ≡ withRound b (min lastRound (b .round + 1)) = g .book ∙ rw t in
       let s : totals ≡ o .lines = g .sent ∙ rw t in
       let l : out ≡ numbersAfter (records w) lent = g .list ∙ rw t in
       let n : r .records ≡ length (records w) = g .count ∙ rw t in
       replied-accepted w _ f r lent out m u (e ∙ rw t) (g .number-is ∙ rw t)
-      (ap (λ (x : Book). worldIn x (lendMoney (o .lines) totals o)) k ∙ round-posted totals s (min 3 (b .round + 1)) refl ∙ rw d) (rw (d, round-written w) l) (rw (d, round-written w) n))
+      (ap (λ (x : Book). worldIn x (lendMoney (o .lines) totals o)) k ∙ round-posted totals s (min lastRound (b .round + 1)) refl ∙ rw d) (rw (d, round-written w) l) (rw (d, round-written w) n))
       (λ t.
       let k : r .book ≡ b = g .book ∙ rw t in
       let s : totals ≡ o .sent = g .sent ∙ rw t in
@@ -243,7 +243,7 @@ module _ (b : Book) (o : Lists) (ls ts lent : List ℤ) (n : ℕ) (e : n ≡ mov
   room-is = ap (λ (x : ℕ). leb x (roomIn lent))
       (ap length (round-written money ∙ round-records b ls ts o) ∙ count-is b ls ts (linesIn b) ∙ sym e)
 
-  pub sent-records : n ≤ roomIn lent → numberOf (r .answer) ≡ 0 → r .book ≡ withRound b (min 3 (b .round + 1)) → r .records ≡ n
+  pub sent-records : n ≤ roomIn lent → numberOf (r .answer) ≡ 0 → r .book ≡ withRound b (min lastRound (b .round + 1)) → r .records ≡ n
       → (totals out : List ℤ) → totals ≡ ls → out ≡ numbersAfter (lineRecords b ls ts (linesIn b)) lent → Sending money b r totals lent out
   unfolding ask
   sent-records h a k c totals out s l =

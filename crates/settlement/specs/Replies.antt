@@ -9,7 +9,7 @@ use Rattle.rules.specs.declared.Book.{Book}
 use Rattle.rules.specs.declared.Body.{Body}
 use Rattle.rules.specs.declared.Body.the-variants.{Round}
 use Rattle.rules.specs.declared.Fields.{Fields}
-use Rattle.rules.specs.Sizes.{recordSize}
+use Rattle.rules.specs.Sizes.{lastRound, recordSize}
 use Rattle.rules.specs.World.{World}
 use Rattle.rules.specs.Effects.{records, tablesAfter, linesAfter, ask, question17, question18, answer, step, recordsOf}
 use Rattle.rules.specs.Answers.{numberOf}
@@ -55,7 +55,7 @@ withRound b n =
 -- a round: question 18 of the room for records; then the next kind of round, what was sent, and the records
 pub record Sending (w : World) (b : Book) (r : Reply) (totals lent out : List ℤ) : Type 0 where
   pub number-is : numberOf (r .answer) ≡ ask (question18 w Round (roomIn lent)) 18 0
-  pub book : r .book ≡ cond (question18 w Round (roomIn lent)) (withRound b (min 3 (b .round + 1))) b
+  pub book : r .book ≡ cond (question18 w Round (roomIn lent)) (withRound b (min lastRound (b .round + 1))) b
   pub sent : totals ≡ cond (question18 w Round (roomIn lent)) (w .position .lines) (w .sent .totals)
   pub list : out ≡ numbersAfter (cond (question18 w Round (roomIn lent)) (records w) []) lent
   pub count : r .records ≡ length (cond (question18 w Round (roomIn lent)) (records w) [])

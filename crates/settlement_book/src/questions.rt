@@ -22,6 +22,7 @@ use rules::Answer;
 use rules::Book;
 use rules::ELEMENT_SIZE;
 use rules::HOUR_PLACES;
+use rules::LAST_ROUND;
 use rules::LINE_SIZE;
 use rules::MOST_ENERGY;
 use rules::PLACES;
@@ -195,7 +196,7 @@ fn is_right(
     all_three(
         tables_right(book, element_data, links, holders, states, readings, blocks),
         lines_right(lines, count),
-        both(lines_right(sent, count), is_within(1, 3, book.round)),
+        both(lines_right(sent, count), is_within(1, LAST_ROUND, book.round)),
     )
 }
 

@@ -59,6 +59,11 @@ unknown-rest true true once x h = absurd (h refl)
 unknown-rest true false once x h = refl
 unknown-rest false b once x h = refl
 
+-- a quantity for the place that its point, element and day were put in
+pub quantity-placed : {x : Body} {l : Place} {p e d q : ℕ} → l ≡ record { point = p; element = e; day = d } → x ≡ Body.Quantity p e d q
+    → (n : ℕ) × (x ≡ Body.Quantity (l .point) (l .element) (l .day) n)
+quantity-placed {q = q} h b = (q, rw h b)
+
 module _ (o : Opening) (t : Tables) (m : Message) where
   module _ (l : Place) where
     pub link-at : (q : ℕ) → m .body ≡ Body.Link (l .point) (l .element) (l .day) q

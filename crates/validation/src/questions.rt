@@ -460,11 +460,10 @@ fn decide_quantity(
     blocks: &[u8],
     m: Message,
     at: Place,
-    quantity: u64,
 ) -> Answer
     requires { ⌜ Readable book (now element_data) (now links) (now holders) (now states) (now blocks) ⌝ }
     requires { ⌜ (m .received < endOfDays) × (at .day < endOfDays) ⌝ }
-    requires { ⌜ m .body ≡ Body.Quantity (at .point) (at .element) (at .day) quantity ⌝ }
+    requires { ⌜ ((quantity : ℕ) × (m .body ≡ Body.Quantity (at .point) (at .element) (at .day) quantity)) ⌝ }
     ensures { λ r. ⌜ ((o : Lists) → numberOf r
         ≡ decidedIn book (asking (was element_data) (was links) (was holders) (was states) (was blocks) o) m) ⌝ }
 {
@@ -549,20 +548,10 @@ pub fn decide(
             point,
             element,
             day,
-            quantity,
+            ..
         } => {
             let at = place_at(point, element, day);
-            decide_quantity(
-                book,
-                element_data,
-                links,
-                holders,
-                states,
-                blocks,
-                m,
-                at,
-                quantity,
-            )
+            decide_quantity(book, element_data, links, holders, states, blocks, m, at)
         }
         Body::Holder { point, .. } => is_sent(book, point, is_energinet(sender)),
         Body::State { point, .. } => is_sent(book, point, is_grid_company(sender)),

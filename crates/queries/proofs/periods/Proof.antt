@@ -1,5 +1,5 @@
 -- The part of the pair where the questions have passed; else the empty part, which is what the query answers then.
-use mathlib.Core.Path.{_≡_, sym, _∙_}
+use mathlib.Core.Path.{_≡_, refl, sym, _∙_}
 use Rattle.rules.specs.World.{World}
 use Rattle.rules.specs.Answers.{numberOf}
 use Rattle.rules.specs.Lent.{Lists, worldIn, lendLinks}
@@ -51,17 +51,21 @@ part-result-end : tie.Need-part-result-end
 part-result-end c = search needs
 
 returns : tie.Need-returns
-returns c o e =
+returns c =
     let yes : tie.Then1 = search in
-    let start = start-of yes in
-    c .pair-part .ensures ∙ periods-answered (world start o) (start .args .point) (start .args .element) (sym e ∙ passed yes)
+    let start = start-of yes in (
+      λ o e. c .pair-part .ensures ∙ periods-answered (world start o) (start .args .point) (start .args .element) (sym e ∙ passed yes),
+      λ n. absurd (n (passed yes)),
+    )
 
 returns-2 : tie.Need-returns-2
-returns-2 c o e =
+returns-2 c =
     let start : tie.Start = search in
     let numbered : tie.After-number = search in
-    let no : tie.Else1 = search in
-    periods-refused (world start o) (start .args .point) (start .args .element) (λ z. no .if1 .left (numbered .number .ensures ∙ e ∙ z))
+    let no : tie.Else1 = search in (
+      λ o e. periods-refused (world start o) (start .args .point) (start .args .element) (λ z. no .if1 .left (numbered .number .ensures ∙ e ∙ z)),
+      λ n. refl,
+    )
 
 pub periods-spec : {M : Type 1} → statement M
 periods-spec =

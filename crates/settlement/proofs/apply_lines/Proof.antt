@@ -7,7 +7,7 @@ use Rattle.rules.proofs.Parts.{few-lines, lengths}
 use Rattle.tables.proofs.Right.{whole-rows}
 use Rattle.facts.proofs.LinkLaws.{link-fits, ends-below}
 use Rattle.recording.proofs.Passed.{row-fits}
-use Rattle.settlement.proofs.Applying.{postable, row-no-reading, zeros, zeros-room, changed, posted-rules, fits-is, applied, applied-not}
+use Rattle.settlement.proofs.Applying.{postable, zeros, zeros-room, changed, posted-rules, fits-is, applied, applied-not}
 use borrow.Author.Needs.{needs}
 use Rattle.settlement.proofs.apply_lines.Statement.{statement}
 use Rattle.settlement.proofs.apply_lines.Tie as tie
@@ -68,7 +68,7 @@ post-requires c κs =
     let r = start .pre .0 .1 in
     let room = zeros-room (a .book .elements) (r .ready .limited .elements) in (
       (lendLines (a .lines .now) o, (postable (a .book) (lent start o) (a .body) r, ended .link-ends .ensures (lent start o))),
-      (row-no-reading (a .body) (start .pre .1), (unfold zeros in (room, room))),
+      (start .pre .1, (unfold zeros in (room, room))),
     )
 
 slice-aggregate-is-fitting : tie.Need-slice-aggregate-is-fitting

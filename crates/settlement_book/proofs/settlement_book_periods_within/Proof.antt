@@ -59,7 +59,7 @@ copy-front-requires c κs =
     let found : tie.After-periods = search in
     let pair = pair-of found in
     let start = start-of (named-of pair) in
-    rw (found .periods .ensures (start .pre .1 .0) (asked pair (start .pre .1 .0) (start .pre .1 .1)))
+    rw (found .periods .ensures .0 (start .pre .1 .0) (asked pair (start .pre .1 .0) (start .pre .1 .1)))
     (le-trans (periods-length _ _ _) (start .pre .0 .1))
 
 number-requires : tie.Need-number-requires
@@ -78,7 +78,7 @@ returns c o whole =
     let a = start .args in
     let e = named .book-of .ensures in
     let k = asked pair o whole in
-    let rows = found .periods .ensures o k ∙ ap (λ (b : Book). periodsQuery (worldIn b (lent start o)) (a .point) (a .element)) e in
+    let rows = found .periods .ensures .0 o k ∙ ap (λ (b : Book). periodsQuery (worldIn b (lent start o)) (a .point) (a .element)) e in
     record {
       number = c .number .ensures ∙ k ∙ ap (λ (b : Book). periodsNumber (worldIn b (lent start o)) (a .point) (a .element)) e;
       count = ap length rows;

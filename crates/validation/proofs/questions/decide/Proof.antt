@@ -2,7 +2,7 @@
 use mathlib.Core.Path.{sym, _∙_}
 use Rattle.rules.specs.Lent.{Lists, openingIn, tablesIn}
 use Rattle.validation.specs.Decided.{asking}
-use Rattle.validation.proofs.Asks.{holder-is, state-is, reading-is, block-is, round-is, link-day, stop-day, quantity-day}
+use Rattle.validation.proofs.Asks.{holder-is, state-is, reading-is, block-is, round-is, link-day, stop-day, quantity-day, quantity-placed}
 use borrow.Author.Needs.{needs}
 use Rattle.validation.proofs.questions.decide.Statement.{statement}
 use Rattle.validation.proofs.questions.decide.Tie as tie
@@ -52,7 +52,7 @@ decide-quantity-requires c κs =
     let named : tie.After-body3 = search in
     let b = named .body3 .given .1 in
     let d = quantity-day (s .args .book .suppliers) _ _ _ (s .args .m .body) (s .pre .1 .body) _ b in
-    (s .pre .0, ((s .pre .1 .received, rw (c .place-at3 .ensures) d), rw (c .place-at3 .ensures) b))
+    (s .pre .0, ((s .pre .1 .received, rw (c .place-at3 .ensures) d), quantity-placed (c .place-at3 .ensures) b))
 
 enum-known-body-4 : tie.Need-enum-known-body-4
 enum-known-body-4 c = search needs

@@ -63,7 +63,7 @@ returns c o =
     ) (at-known (openingIn (a .book) t) (tablesIn (a .book) t) (a .m) (a .at) true
     (question15 (openingIn (a .book) t) (tablesIn (a .book) t) (a .at .point) (a .at .element) (a .at .day)) 15
     (sym (then1 .before .before .ask-pair .ensures) ∙ sym (then1 .before .number .ensures) ∙ then1 .if1 .taken)
-    ∙ sym (quantity-at (openingIn (a .book) t) (tablesIn (a .book) t) (a .m) (a .at) (a .quantity) (s .pre .1 .1)))
+    ∙ sym (quantity-at (openingIn (a .book) t) (tablesIn (a .book) t) (a .m) (a .at) (s .pre .1 .1 .0) (s .pre .1 .1 .1)))
 
 returns-2 : tie.Need-returns-2
 returns-2 c o =
@@ -74,7 +74,7 @@ returns-2 c o =
     ∙ at-unknown (openingIn (a .book) t) (tablesIn (a .book) t) (a .m) (a .at) true
     (question15 (openingIn (a .book) t) (tablesIn (a .book) t) (a .at .point) (a .at .element) (a .at .day)) 15
     (λ h. c .if1 .left (c .before .number .ensures ∙ c .before .before .ask-pair .ensures ∙ h))
-    ∙ sym (quantity-at (openingIn (a .book) t) (tablesIn (a .book) t) (a .m) (a .at) (a .quantity) (s .pre .1 .1))
+    ∙ sym (quantity-at (openingIn (a .book) t) (tablesIn (a .book) t) (a .m) (a .at) (s .pre .1 .1 .0) (s .pre .1 .1 .1))
 
 pub decide-quantity-spec : {M : Type 1} → statement M
 decide-quantity-spec =
