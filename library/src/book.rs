@@ -202,7 +202,7 @@ impl Book {
             records: zeros(places),
             rows: zeros(PLACES as u64),
         };
-        // Safety: the function asks only that there are nine numbers.
+        // Safety: the function takes anything; each slice is a list with its length.
         let answer = unsafe { write_with!(book, settlement_book_open()) };
         Question::none_of(answer).map(|()| book)
     }
@@ -277,7 +277,7 @@ impl Book {
     /// The same through the exported function that asks questions 2 to 5 first.
     pub fn line_checked(&self, supplier: u64, element: u64) -> Result<Line, Question> {
         let mut line = [0; 3];
-        // Safety: nine numbers and a line of three.
+        // Safety: the function takes anything; each slice is a list with its length.
         let answer = unsafe {
             read_with!(
                 self,
@@ -323,7 +323,7 @@ impl Book {
     ) -> Result<impl ExactSizeIterator<Item = Period> + '_, Question> {
         let mut count = 0;
         let (rows, length) = (self.rows.as_mut_ptr(), self.rows.len());
-        // Safety: nine numbers, and as many rows as there are links.
+        // Safety: the function takes anything; each slice is a list with its length.
         let answer = unsafe {
             read_with!(
                 self,
@@ -365,7 +365,7 @@ impl Book {
     /// The same through the exported function that asks questions 2 to 5 first.
     pub fn day_without_holder_checked(&self, point: u64) -> Result<Option<u64>, Question> {
         let mut day = NO_DAY;
-        // Safety: nine numbers.
+        // Safety: the function takes anything; each slice is a list with its length.
         let answer =
             unsafe { read_with!(self, settlement_book_day_without_holder(point, &mut day)) };
         Question::none_of(answer).map(|()| (day < NO_DAY).then_some(day))

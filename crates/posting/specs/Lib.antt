@@ -1,4 +1,4 @@
--- What the functions of this crate add to tables of changes, and the laws that make it the rules' lines.
+-- What the functions of this crate add to tables of changes, and what they ask.
 pub mod Moved
 pub mod Shares
 pub mod Payment

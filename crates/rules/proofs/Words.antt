@@ -59,7 +59,7 @@ module _ (p e a b q : ℕ) (he : e < elementRoom) (ha : a < dayRoom) (hb : b < d
   pub pair-pack-same : ofPair p e (packPeriod p e a b q) ≡ true
   pair-pack-same = rw (pair-pack p e, eq-eqb p p refl, eq-eqb e e refl)
 
-abbrev pub spot : ℕ → ℕ → ℕ → ℕ
+abbrev pub spot : (point element day : ℕ) → ℕ
 spot p e d = (p * elementRoom + e) * dayRoom + d
 
 pub from-is : (w : ℕ) → from w ≡ w / firstUnit

@@ -114,8 +114,12 @@ hourly = 8
 abbrev pub allMarks : ℕ
 allMarks = 15
 
+-- is one mark among them
+abbrev pub isSet : (marks mark : ℕ) → Bool
+isSet marks mark = eqb (marks / mark % 2) 1
+
 unfoldable pub marked : Opening → (mark element : ℕ) → Bool
-marked o mark e = eqb (marksOf o e / mark % 2) 1
+marked o mark e = isSet (marksOf o e) mark
 
 unfoldable pub isTariff : Opening → (element : ℕ) → Bool
 isTariff o e = eqb (kindOf o e) tariff

@@ -196,7 +196,10 @@ fn is_right(
     all_three(
         tables_right(book, element_data, links, holders, states, readings, blocks),
         lines_right(lines, count),
-        both(lines_right(sent, count), is_within(1, LAST_ROUND, book.round)),
+        both(
+            lines_right(sent, count),
+            is_within(1, LAST_ROUND, book.round),
+        ),
     )
 }
 

@@ -14,7 +14,7 @@ use Rattle.rules.specs.Sizes.{endOfDays, elementSize, mostPoints, mostElements,
 use Rattle.rules.specs.Basics.{allIn}
 use Rattle.rules.specs.Rows.{periodFirst, periodEnd}
 use Rattle.rules.specs.Lines.{tariff}
-use Rattle.rules.specs.World.{Opening, Tables, gridCompany, energinet, tax, stateOn, notExisting, closed}
+use Rattle.rules.specs.World.{Opening, Tables, gridCompany, energinet, isSet, tax, stateOn, notExisting, closed}
 use Rattle.rules.specs.Lent.{Lists, openingIn, tablesIn, lendData, lendRows, lendBlocks}
 use Rattle.rules.specs.Questions.{question7, question8, question9, question10, question11, question12}
 use Rattle.rules.specs.Questions.{ownNumber, ownQuestion, mayLink, inTime}
@@ -57,7 +57,7 @@ orNext first next = cond (eqb first 0) next first
 
 -- may the sender link an element with that owner, kind and marks at a point with that block and holder
 unfoldable pub linkRight : Sender → (owner kind marks block holder : ℕ) → Bool
-linkRight Sender.GridCompany owner kind marks block holder = eqb owner gridCompany || (eqb (marks / tax % 2) 1 && eqb block 1)
+linkRight Sender.GridCompany owner kind marks block holder = eqb owner gridCompany || (isSet marks tax && eqb block 1)
 linkRight Sender.Energinet owner kind marks block holder = eqb owner energinet
 linkRight (Sender.Supplier s) owner kind marks block holder =
     eqb owner energinet && (eqb kind tariff && (not (eqb block 1) && eqb holder s))

@@ -8,7 +8,7 @@ ghost use Rattle.calendar.specs.Gregorian.{InRange};
 ghost use Rattle.rules.specs.declared.Body.{Body};
 ghost use Rattle.rules.specs.Sizes.{endOfDays, elementSize, gridDaysBack, holderSize, stateSize};
 ghost use Rattle.rules.specs.Lines.{tariff};
-ghost use Rattle.rules.specs.World.{gridCompany, energinet, tax, notExisting, closed};
+ghost use Rattle.rules.specs.World.{gridCompany, energinet, isSet, tax, notExisting, closed};
 ghost use Rattle.rules.specs.Lent.{Lists, openingIn, tablesIn, lendData, lendLinks, lendHolders, lendBlocks, was};
 ghost use Rattle.rules.specs.Questions.{isGridCompany, isEnerginet, inTime, mayLink, tariffOnce};
 ghost use Rattle.rules.specs.Questions.{question13, question14, question15, question16};
@@ -21,6 +21,7 @@ use calendar::days_in_month;
 use calendar::first_day;
 use facts::holder_on;
 use facts::state_on;
+use pricing::is_marked;
 use pricing::kind_of;
 use pricing::marks_of;
 use pricing::owner_of;
@@ -111,11 +112,11 @@ fn supplier_may(owner: u64, kind: u64, block: u8, holder: u64, supplier: u64) ->
 
 // The grid company's: its own elements, and taxes on a blocked point.
 fn grid_company_may(owner: u64, marks: u64, block: u8) -> bool
-    ensures { λ r. ⌜ r ≡ eqb owner gridCompany || (eqb (marks / tax % 2) 1 && eqb block 1) ⌝ }
+    ensures { λ r. ⌜ r ≡ eqb owner gridCompany || (isSet marks tax && eqb block 1) ⌝ }
 {
     if owner == GRID_COMPANY {
         true
-    } else if marks / TAX % 2 == 1 {
+    } else if is_marked(marks, TAX) {
         block == 1
     } else {
         false
