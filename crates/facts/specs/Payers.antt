@@ -4,5 +4,8 @@ use mathlib.Core.Bool.{cond}
 use Rattle.rules.specs.World.{Tables, holderOn, stateOn, countingState}
 
 -- the holder where the state counts, else nobody (0)
+abbrev pub payerOf : (state holder : ℕ) → ℕ
+payerOf s h = cond (countingState s) h 0
+
 unfoldable pub payerOn : Tables → (point day : ℕ) → ℕ
-payerOn t p d = cond (countingState (stateOn t p d)) (holderOn t p d) 0
+payerOn t p d = payerOf (stateOn t p d) (holderOn t p d)

@@ -1,14 +1,13 @@
 // What the tables say of a point on a day: its holder, its state, who pays, up to which day a new link runs, and where the reading of an
 // hour stands.
 ghost use mathlib.Core.Path.{_≡_};
-ghost use mathlib.Core.Bool.{cond};
 ghost use Prim.Native.Nat.{_<_};
 ghost use Rattle.rules.specs.Sizes.{mostPoints, endOfDays, holderSize, stateSize};
 ghost use Rattle.rules.specs.World.{countingState, holderOn, stateOn, readingAt};
 ghost use Rattle.rules.specs.Lent.{Lists, openingIn, tablesIn, lendData, lendLinks, lendHolders, lendStates, was};
 ghost use Rattle.tables.specs.Order.{LinkRows, ValueRows};
 ghost use Rattle.facts.specs.Links.{linkEnds, LinkFits};
-ghost use Rattle.facts.specs.Payers.{payerOn};
+ghost use Rattle.facts.specs.Payers.{payerOf, payerOn};
 ghost use Rattle.facts.specs.Readings.{HourOfMonth};
 use calendar::days_in_month;
 use calendar::first_day;
@@ -54,7 +53,7 @@ pub fn is_counting(state: u64) -> bool
 
 // Who pays: the holder where the state counts, else 0.
 pub fn payer(state: u64, holder: u64) -> u64
-    ensures { λ r. ⌜ r ≡ cond (countingState state) holder 0 ⌝ }
+    ensures { λ r. ⌜ r ≡ payerOf state holder ⌝ }
 {
     if is_counting(state) { holder } else { 0 }
 }

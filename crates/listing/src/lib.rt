@@ -10,12 +10,10 @@ use ledger::records::put_list;
 use rules::Book;
 use rules::Fields;
 use rules::MOST_LINES;
+use rules::RECORD_NUMBERS;
 use rules::RECORD_SIZE;
 use rules::Record;
 use settlement::Reply;
-
-// The numbers of as many records as a book has lines.
-const NUMBERS: usize = MOST_LINES * RECORD_SIZE;
 
 // A round has at most as many records as a book has lines.
 fn most_records(room: usize) -> usize
@@ -81,7 +79,7 @@ pub fn message(
     ensures { λ r. ⌜ (let t = lent element_data prices links holders states readings blocks lines sent in
         Listed (worldIn book (t .entry)) (worldIn (r .book) (t .exit)) fields r (was records) (left records)) ⌝ }
 {
-    let mut numbers = [0i64; NUMBERS];
+    let mut numbers = [0i64; RECORD_NUMBERS];
     let reply = message_numbers(
         book,
         element_data,

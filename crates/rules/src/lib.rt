@@ -33,6 +33,9 @@ pub const LINE_SIZE: usize = 3;
 // Numbers a record: kind, supplier, element, quantity, kroner, billionths.
 pub const RECORD_SIZE: usize = 6;
 
+// The numbers of as many records as a book has lines.
+pub const RECORD_NUMBERS: usize = MOST_LINES * RECORD_SIZE;
+
 pub const MOST_PRICE: u64 = 9999999999;
 
 pub const MOST_TARIFF_PRICE: u64 = 9999999;
