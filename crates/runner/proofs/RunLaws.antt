@@ -7,6 +7,7 @@ use mathlib.Core.Bool.{Bool, true, false, not, _&&_, cond}
 use mathlib.Core.Logic.{_⊎_, ⊎-elim}
 use mathlib.Core.List.{List, [], _∷_, _++_, append-assoc, append-nil}
 use lib.ListN.{length, take, drop, length-drop}
+use lib.Seq.{drop-drop}
 use lib.Dec.{leb, ltb, eqb}
 use borrow.Author.Tests.{leb-true, ltb-true}
 use Rattle.rules.specs.World.{Opening, World}
@@ -26,7 +27,7 @@ use Rattle.runner.specs.Texts.{longestText, lastNumber}
 use Rattle.runner.specs.Holding.{Represents, Stands, Advances, canGoOn, Reached, longestField, Stopped}
 use Rattle.runner.proofs.StageLaws.{never, move-from, next-inside, pieces}
 use Rattle.runner.proofs.ArmLaws.{wait-move}
-use Rattle.runner.proofs.ValueLaws.{placed-front}
+use Rattle.runner.proofs.ValueLaws.{placed-front, placed-behind}
 
 -- ---- where more bytes are needed, the input does not end with those in hand, and few are left
 
@@ -144,27 +145,29 @@ holds-phase p t (messages w n) o h = h .1
 holds-phase p t over o h = never (sym h ∙ o)
 
 -- the run so far
-pub record Running (ended : Bool) (s : List ℕ) (at : ℕ) (p₀ : Progress) (t₀ : Lists) (room : ℕ) (t : Lists) (out : List ℕ) (p : Progress) (place written : ℕ) (waits : Bool) : Type 0 where
+pub record Running (ended : Bool) (s : List ℕ) (at : ℕ) (p₀ : Progress) (t₀ : Lists) (out₀ : List ℕ) (t : Lists) (out : List ℕ) (p : Progress) (place written : ℕ) (waits : Bool) : Type 0 where
   pub inside : place ≤ length s
-  pub long : length out ≡ room
-  pub text : written ≤ room
+  pub long : length out ≡ length out₀
+  pub text : written ≤ length out₀
+  pub behind : drop written out ≡ drop written out₀
   pub sized : Sized t
   pub few : waits ≡ true → (ended ≡ false) × (length s - place < longestField)
   pub reached : (stage : Stage) → Represents p₀ t₀ stage → Reached ended stage (drop at s) (take written out) p t (drop place s)
 
-pub begins : (ended : Bool) (s : List ℕ) (at : ℕ) (p : Progress) (t : Lists) (out : List ℕ) → at ≤ length s → Sized t → Running ended s at p t (length out) t out p at 0 false
+pub begins : (ended : Bool) (s : List ℕ) (at : ℕ) (p : Progress) (t : Lists) (out : List ℕ) → at ≤ length s → Sized t → Running ended s at p t out t out p at 0 false
 begins ended s at p t out l z =
     record {
       inside = l;
       long = refl;
       text = omega arith;
+      behind = refl;
       sized = z;
       few = λ w. never (sym w);
       reached = λ stage h. record { stage = stage; holds = h; same = λ rest e. refl };
     }
 
-module _ (ended : Bool) (s : List ℕ) (at : ℕ) (p₀ : Progress) (t₀ : Lists) (room : ℕ) (t : Lists) (out : List ℕ) (p : Progress) (place written : ℕ) (waits : Bool)
-    (u : Running ended s at p₀ t₀ room t out p place written waits) (b : Stands p₀ t₀)
+module _ (ended : Bool) (s : List ℕ) (at : ℕ) (p₀ : Progress) (t₀ : Lists) (out₀ : List ℕ) (t : Lists) (out : List ℕ) (p : Progress) (place written : ℕ) (waits : Bool)
+    (u : Running ended s at p₀ t₀ out₀ t out p place written waits) (b : Stands p₀ t₀)
   where
     -- the numbers and the tables stand for a stage
     pub stands : Stands p t
@@ -194,8 +197,14 @@ module _ (ended : Bool) (s : List ℕ) (at : ℕ) (p₀ : Progress) (t₀ : List
             let n : a .next ≡ place = turn .place ∙ ap (λ (x : Move). x .next) (wait-move place (stands .stage) found s z) in
             (q .0, rw n (omega (arith, rw length-drop at (q .1))))
 
-        text-within : a .written ≤ room
+        text-within : a .written ≤ length out₀
         text-within = omega (arith, turn .text .end, turn .text .short, g .room, u .long, u .text)
+
+        next-behind : drop (a .written) after ≡ drop (a .written) out₀
+        next-behind =
+            let v = turn .text in
+            let text = moveOn place (stands .stage) found s .text in
+            rw (v .is, placed-behind out written text (a .written) (omega (arith, u .long, u .text)) (v .end), v .end, ← drop-drop (length text) written out, u .behind, drop-drop)
 
         next-reached : (stage : Stage) → Represents p₀ t₀ stage → Reached ended stage (drop at s) (take (a .written) after) (a .progress) t′ (drop (a .next) s)
         next-reached stage h =
@@ -211,8 +220,8 @@ module _ (ended : Bool) (s : List ℕ) (at : ℕ) (p₀ : Progress) (t₀ : List
                   ∙ rw (v .place, text) (sym (append-assoc (take written out) (move .text) _));
             }
 
-        pub turns : Sized t′ → length after ≡ length out → Running ended s at p₀ t₀ room t′ after (a .progress) (a .next) (a .written) (a .more)
-        turns z l = record { inside = next-within; long = l ∙ u .long; text = text-within; sized = z; few = next-few; reached = next-reached }
+        pub turns : Sized t′ → length after ≡ length out → Running ended s at p₀ t₀ out₀ t′ after (a .progress) (a .next) (a .written) (a .more)
+        turns z l = record { inside = next-within; long = l ∙ u .long; text = text-within; behind = next-behind; sized = z; few = next-few; reached = next-reached }
 
         pub less : weight (a .more) (a .progress) (length s - a .next) < weight waits p (length s - place)
         unfolding weight
@@ -227,9 +236,9 @@ module _ (ended : Bool) (s : List ℕ) (at : ℕ) (p₀ : Progress) (t₀ : List
 
 -- ---- the end
 
-pub ends : (ended : Bool) (s : List ℕ) (at : ℕ) (p₀ : Progress) (t₀ : Lists) (room : ℕ) (t : Lists) (out : List ℕ) (p : Progress) (place written : ℕ) (waits : Bool)
-    → Running ended s at p₀ t₀ room t out p place written waits → canGoOn p waits (length out - written) ≡ false → Stopped s ended out (record { progress = p; next = place; written = written; waits = waits })
-ends ended s at p₀ t₀ room t out p place written waits u g = record { place = u .inside; text = omega (arith, u .long, u .text); waits = u .few; stops = g }
+pub ends : (ended : Bool) (s : List ℕ) (at : ℕ) (p₀ : Progress) (t₀ : Lists) (out₀ : List ℕ) (t : Lists) (out : List ℕ) (p : Progress) (place written : ℕ) (waits : Bool)
+    → Running ended s at p₀ t₀ out₀ t out p place written waits → canGoOn p waits (length out - written) ≡ false → Stopped s ended out₀ out (record { progress = p; next = place; written = written; waits = waits })
+ends ended s at p₀ t₀ out₀ t out p place written waits u g = record { place = u .inside; text = omega (arith, u .long, u .text); behind = u .behind; waits = u .few; stops = g }
 
 -- ---- for callers
 

@@ -4,7 +4,7 @@ use mathlib.Core.Path.{_≡_}
 use mathlib.Core.Bool.{Bool, true, false, not, _&&_}
 use mathlib.Core.List.{List, [], _++_}
 use lib.IntN.{ℤ}
-use lib.ListN.{length, take}
+use lib.ListN.{length, take, drop}
 use lib.Dec.{leb, ltb}
 use Rattle.rules.specs.declared.Book.{Book}
 use Rattle.rules.specs.Sizes.{elementSize, mostElements, pricePlaces}
@@ -85,10 +85,11 @@ pub record Reached (ended : Bool) (from : Stage) (front text : List ℕ) (p : Pr
 abbrev pub longestField : ℕ
 longestField = 198
 
--- where it has stopped, and why
-pub record Stopped (s : List ℕ) (ended : Bool) (out : List ℕ) (r : Ran) : Type 0 where
+-- where it has stopped, and why; the output behind the text is as it was
+pub record Stopped (s : List ℕ) (ended : Bool) (out after : List ℕ) (r : Ran) : Type 0 where
   pub place : r .next ≤ length s
-  pub text : r .written ≤ length out
+  pub text : r .written ≤ length after
+  pub behind : drop (r .written) after ≡ drop (r .written) out
   -- more bytes are needed: the input does not end here, and fewer are left than the longest field has
   pub waits : r .waits ≡ true → (ended ≡ false) × (length s - r .next < longestField)
-  pub stops : canGoOn (r .progress) (r .waits) (length out - r .written) ≡ false
+  pub stops : canGoOn (r .progress) (r .waits) (length after - r .written) ≡ false

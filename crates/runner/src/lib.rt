@@ -189,8 +189,9 @@ fn goes_on(progress: Progress, waits: bool, left: usize) -> bool
     }
 }
 
-// Takes one field after the other, from a place of the bytes in hand on; the text stands at the front of the output. It stops where the run
-// is over, where more bytes are needed, where the output has no room for the longest text of a field, or after the last message number.
+// Takes one field after the other, from a place of the bytes in hand on; the text stands at the front of the output, and what is behind it
+// stays. It stops where the run is over, where more bytes are needed, where the output has no room for the longest text of a field, or
+// after the last message number.
 pub fn run(
     progress: Progress,
     s: &[u8],
@@ -214,7 +215,7 @@ pub fn run(
     ensures reached { λ r. ⌜ (let t = lent element_data prices links holders states readings blocks lines sent in
         (stage : Stage) → Represents progress (t .entry) stage
         → Reached ended stage (drop at (was s)) (take (r .written) (left out)) (r .progress) (t .exit) (drop (r .next) (was s))) ⌝ }
-    ensures stopped { λ r. ⌜ Stopped (was s) ended (left out) r ⌝ }
+    ensures stopped { λ r. ⌜ Stopped (was s) ended (was out) (left out) r ⌝ }
 {
     let mut p = progress;
     let mut place = at;

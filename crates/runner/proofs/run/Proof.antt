@@ -21,7 +21,7 @@ tables ds ps links holders states readings blocks lines sent =
 
 abbrev Inv-loop : tie.InvT-loop
 Inv-loop s at ended element-data₀ prices₀ links₀ holders₀ states₀ readings₀ blocks₀ lines₀ sent₀ records₀ out₀ p₀ place₀ written₀ waits₀ element-data prices links holders states readings blocks lines sent records out p place written waits =
-    Running ended s at p₀ (tables element-data₀ prices₀ links₀ holders₀ states₀ readings₀ blocks₀ lines₀ sent₀) (length out₀)
+    Running ended s at p₀ (tables element-data₀ prices₀ links₀ holders₀ states₀ readings₀ blocks₀ lines₀ sent₀) out₀
     (tables element-data prices links holders states readings blocks lines sent) out p place written waits
     × (length records ≡ recordPlaces * recordSize)
 
@@ -85,7 +85,7 @@ advance-requires c κs =
     let g = going turn in (
       u .sized,
       (
-        stands (a .ended) (a .s .now) (a .at) (a .progress) (lent start) (length (a .out .now)) (now-lent head) (l .out) (l .p) (l .place) (l .written)
+        stands (a .ended) (a .s .now) (a .at) (a .progress) (lent start) (a .out .now) (now-lent head) (l .out) (l .p) (l .place) (l .written)
             (l .waits) u (start .pre .1 .0),
         ((g .over-not, g .number, u .inside), (l .inv .1, omega (arith, g .room))),
       ),
@@ -99,7 +99,7 @@ loop-less c =
     let start = start-of head in
     let a = start .args in
     let l = head .loop in
-    less (a .ended) (a .s .now) (a .at) (a .progress) (lent start) (length (a .out .now)) (now-lent head) (l .out) (l .p) (l .place) (l .written)
+    less (a .ended) (a .s .now) (a .at) (a .progress) (lent start) (a .out .now) (now-lent head) (l .out) (l .p) (l .place) (l .written)
     (l .waits) (l .inv .0) (start .pre .1 .0) (going turn) _ _ (done .advance .result) (done .advance .ensures .0) (done .advance .ensures .1)
 
 loop-again : tie.Need-loop-again Inv-loop μ-loop
@@ -112,7 +112,7 @@ loop-again c =
     let l = head .loop in
     let z = l .inv .0 .sized in
     let k = done .advance .kept .1 .1 .1 .1 in (
-      turns (a .ended) (a .s .now) (a .at) (a .progress) (lent start) (length (a .out .now)) (now-lent head) (l .out) (l .p) (l .place) (l .written)
+      turns (a .ended) (a .s .now) (a .at) (a .progress) (lent start) (a .out .now) (now-lent head) (l .out) (l .p) (l .place) (l .written)
           (l .waits) (l .inv .0) (start .pre .1 .0) (going turn) _ _ (done .advance .result) (done .advance .ensures .0) (done .advance .ensures .1)
           (record {
             elementData = k .0 ∙ z .elementData;
@@ -193,7 +193,7 @@ returns c =
     let l = head .loop in
     let u = l .inv .0 in (
       u .reached,
-      ends (a .ended) (a .s .now) (a .at) (a .progress) (lent start) (length (a .out .now)) (now-lent head) (l .out) (l .p) (l .place)
+      ends (a .ended) (a .s .now) (a .at) (a .progress) (lent start) (a .out .now) (now-lent head) (l .out) (l .p) (l .place)
           (l .written) (l .waits) u (sym (asked .goes-on .ensures) ∙ no .if1 .left),
     )
 
