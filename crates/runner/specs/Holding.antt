@@ -13,6 +13,7 @@ use Rattle.rules.specs.Lent.{Lists}
 use Rattle.rules.specs.Whole.{Whole}
 use Rattle.recording.specs.Opened.{freshBook}
 use Rattle.file.specs.declared.fields.Phase.{Phase}
+use Rattle.file.specs.Field.{headerSize, hourlyLength}
 use Rattle.file.specs.Lines.{Written}
 use Rattle.file.specs.Program.{Heading, describedAll, pricesAll, settlePoints}
 use Rattle.runner.specs.declared.Progress.{Progress}
@@ -81,9 +82,9 @@ pub record Reached (ended : Bool) (from : Stage) (front text : List ℕ) (p : Pr
   pub holds : Represents p t stage
   pub same : (rest : List ℕ) → (ended ≡ true → rest ≡ []) → printed from (front ++ rest) ≡ text ++ printed stage (left ++ rest)
 
--- tag, length and value of an element with 24 prices
+-- an element with 24 prices is the longest field: 198
 abbrev pub longestField : ℕ
-longestField = 198
+longestField = headerSize + hourlyLength
 
 -- where it has stopped, and why; the output behind the text is as it was
 pub record Stopped (s : List ℕ) (ended : Bool) (out after : List ℕ) (r : Ran) : Type 0 where
