@@ -11,7 +11,7 @@ use Rattle.file.specs.declared.fields.Phase.{Phase}
 use Rattle.file.specs.declared.fields.Found.{Found}
 use Rattle.file.specs.declared.fields.Found.the-variants.{Month, Element, Message, End, More, Broken}
 use Rattle.file.specs.Field.{fieldOf, Inside}
-use Rattle.file.specs.Program.{answered, onMessage, messagesFrom, Heading, recordPlaces, collected, openThen, onElement, elementsFrom}
+use Rattle.file.specs.Program.{answered, onMessage, messagesFrom, Heading, settleRecords, collected, openThen, onElement, elementsFrom}
 use Rattle.file.proofs.FieldLaws.{inside-of}
 
 -- ---- messages
@@ -21,7 +21,7 @@ same-on-message : (found : Found) (w : World) (number end : ℕ) (f g : ℕ → 
     → onMessage found w number f ≡ onMessage found w number g
 unfolding onMessage
 same-on-message (Message fields next) w number end f g h same =
-    ap (λ (t : List ℕ). answered w fields number ++ t) (same next (step w fields recordPlaces) (h .0) (h .1))
+    ap (λ (t : List ℕ). answered w fields number ++ t) (same next (step w fields settleRecords) (h .0) (h .1))
 same-on-message End w number end f g h same = refl
 same-on-message (Month year month points suppliers next) w number end f g h same = refl
 same-on-message (Element start size next) w number end f g h same = refl

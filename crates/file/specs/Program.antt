@@ -5,7 +5,7 @@ use mathlib.Core.List.{List, [], _∷_, _++_}
 use lib.IntN.{ℤ, pos}
 use lib.ListN.{length, take, drop, replicate}
 use lib.Dec.{leb, eqb}
-use Rattle.rules.specs.Sizes.{elementSize}
+use Rattle.rules.specs.Sizes.{elementSize, mostLines}
 use Rattle.rules.specs.declared.Fields.{Fields}
 use Rattle.rules.specs.declared.Record.{Record}
 use Rattle.rules.specs.World.{Opening, World, tableOf, monthFirst, monthDays}
@@ -19,15 +19,21 @@ use Rattle.file.specs.Field.{fieldOf}
 use Rattle.file.specs.Element.{pricesIn}
 use Rattle.file.specs.Lines.{bookLine, recordLine, refusedLine}
 
+-- ---- what the program has room for
+
+-- "`settle` takes at most 16 points; more is question 2"
+abbrev pub settlePoints : ℕ
+settlePoints = 16
+
+-- "the list holds 1,024": a record for each line
+abbrev pub settleRecords : ℕ
+settleRecords = mostLines
+
 -- "Refusals 1 to 4 print `refused 0 N` and end the run; lines printed before stand."
 unfoldable pub endedBy : (question : ℕ) → List ℕ
 endedBy question = refusedLine 0 question
 
 -- ---- messages
-
--- "the list holds 1,024"
-abbrev pub recordPlaces : ℕ
-recordPlaces = 1024
 
 unfoldable pub recordLines : (records : List Record) → List ℕ
 recordLines [] = []
@@ -36,13 +42,13 @@ recordLines (r ∷ rs) = recordLine r ++ recordLines rs
 -- "An accepted message prints only its records"; "`refused`: message number from 1, question."
 unfoldable pub answered : (world : World) → (message : Fields) → (number : ℕ) → List ℕ
 answered w f number =
-    cond (eqb (answer w f recordPlaces) 0)
-    (recordLines (recordsOf w f recordPlaces))
-    (refusedLine number (answer w f recordPlaces))
+    cond (eqb (answer w f settleRecords) 0)
+    (recordLines (recordsOf w f settleRecords))
+    (refusedLine number (answer w f settleRecords))
 
 -- a message, and what is printed from the next field and the next world on
 unfoldable pub onMessage : (found : Found) → (world : World) → (number : ℕ) → (more : (next : ℕ) → World → List ℕ) → List ℕ
-onMessage (Message f next) w number more = answered w f number ++ more next (step w f recordPlaces)
+onMessage (Message f next) w number more = answered w f number ++ more next (step w f settleRecords)
 onMessage End w number more = []
 onMessage (Month year month points suppliers next) w number more = endedBy 1
 onMessage (Element start size next) w number more = endedBy 1
@@ -105,10 +111,7 @@ lentFor o =
       sent = record { totals = replicate (linePlaces o) (pos 0); round = 1 };
     }
 
--- "`settle` takes at most 16 points; more is question 2"; "no tag 2 question 2", since an opening without elements is
-abbrev pub settlePoints : ℕ
-settlePoints = 16
-
+-- "no tag 2 question 2", since an opening without elements is
 unfoldable pub settleAnswer : Opening → ℕ
 settleAnswer o = ask (leb (o .points) settlePoints) 2 (openingAnswer (lentFor o))
 

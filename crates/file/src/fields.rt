@@ -46,12 +46,10 @@ const HEAD_SIZE: usize = HEADER_SIZE + ELEMENT_SIZE;
 
 // ---- numbers, high byte first
 
-// The values of a byte; the first number of 64 bits that stands for a negative one; the last number of 64 bits.
+// The values of a byte; the first number of 64 bits that stands for a negative one.
 const BYTE_ROOM: u64 = 256;
 
 const FIRST_NEGATIVE: u64 = 9223372036854775808;
-
-const LAST_NUMBER: u64 = 18446744073709551615;
 
 // The number in the n bytes from a place on; 64 bits have room for eight.
 pub fn number_at(s: &[u8], at: usize, n: usize) -> u64
@@ -248,7 +246,7 @@ fn signed(n: u64) -> i64
     if n < FIRST_NEGATIVE {
         n as i64
     } else {
-        -1 - ((LAST_NUMBER - n) as i64)
+        -1 - ((u64::MAX - n) as i64)
     }
 }
 

@@ -21,7 +21,7 @@ use Rattle.file.specs.declared.fields.Phase.{Phase}
 use Rattle.file.specs.declared.fields.Found.{Found}
 use Rattle.file.specs.declared.fields.Found.the-variants.{Month, Element, Message, End, More, Broken}
 use Rattle.file.specs.Lines.{refusedLine, longestLine, Written}
-use Rattle.file.specs.Program.{endedBy, recordPlaces, settlePoints, answered, Heading, describedAll, pricesAll}
+use Rattle.file.specs.Program.{endedBy, settleRecords, settlePoints, answered, Heading, describedAll, pricesAll}
 use Rattle.file.proofs.PlacedLaws.{loosened}
 use Rattle.runner.specs.declared.Progress.{Progress}
 use Rattle.runner.specs.declared.Advanced.{Advanced}
@@ -83,7 +83,7 @@ module _ (b : Book) (t : Lists) (e : Ends) (q : e ≡ endsOf b) (s : Sized t) (g
       ∙ ap (worldIn (r .book)) (parts-back e t x (within b g e q t s) l)
       ∙ h ∙ ap (λ (y : Ends). step (worldIn b (cutTo y t)) f room) q
 
-  pub arm-message : (at next number : ℕ) (bytes : List ℕ) (lent records : List ℤ) → length lent ≡ recordPlaces * recordSize
+  pub arm-message : (at next number : ℕ) (bytes : List ℕ) (lent records : List ℤ) → length lent ≡ settleRecords * recordSize
       → Replied (worldIn b (cutTo e t)) (worldIn (r .book) x) f r lent records
       → Whole (worldIn (r .book) x) → b .points ≤ settlePoints
       → (out after : List ℕ) (from : ℕ) (a : Advanced) → Written longestText out after from (a .written) (replyText r number records)
@@ -91,11 +91,11 @@ module _ (b : Book) (t : Lists) (e : Ends) (q : e ≡ endsOf b) (s : Sized t) (g
       → Advances (moveOn at (messages (frontsWorld b t) number) (Message f next) bytes) (a .progress) (putBack e t x) out after (a .next) from (a .written)
   unfolding moveOn
   arm-message at next number bytes lent records long p c k out after from a v z =
-      let room : roomIn lent ≡ recordPlaces = omega arith in
-      let w : frontsWorld (r .book) (putBack e t x) ≡ step (frontsWorld b t) f recordPlaces =
-      message-world recordPlaces (p .world ∙ ap (step (worldIn b (cutTo e t)) f) room) in
-      let c′ : Whole (step (frontsWorld b t) f recordPlaces) =
-      subst (λ (y : World). Whole y) (p .world ∙ ap (step (worldIn b (cutTo e t)) f) room ∙ ap (λ (y : Ends). step (worldIn b (cutTo y t)) f recordPlaces) q) c in
+      let room : roomIn lent ≡ settleRecords = omega arith in
+      let w : frontsWorld (r .book) (putBack e t x) ≡ step (frontsWorld b t) f settleRecords =
+      message-world settleRecords (p .world ∙ ap (step (worldIn b (cutTo e t)) f) room) in
+      let c′ : Whole (step (frontsWorld b t) f settleRecords) =
+      subst (λ (y : World). Whole y) (p .world ∙ ap (step (worldIn b (cutTo e t)) f) room ∙ ap (λ (y : Ends). step (worldIn b (cutTo y t)) f settleRecords) q) c in
       let text : replyText r number records ≡ answered (frontsWorld b t) f number =
       reply-text (worldIn b (cutTo e t)) (worldIn (r .book) x) f r lent records long p number
       ∙ ap (λ (y : Ends). answered (worldIn b (cutTo y t)) f number) q in

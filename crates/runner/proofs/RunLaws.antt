@@ -59,7 +59,7 @@ from-more at Broken = refl
 
 -- ---- what the test of a turn says
 
-pub record GoesOn (p : Progress) (waits : Bool) (left : ℕ) : Type 0 where
+pub record CanGoOn (p : Progress) (waits : Bool) (left : ℕ) : Type 0 where
   pub waits-not : waits ≡ false
   pub over-not : p .over ≡ false
   pub number : p .number < lastNumber
@@ -69,9 +69,9 @@ not-true : (b : Bool) → not b ≡ true → b ≡ false
 not-true true h = never (sym h)
 not-true false h = refl
 
-pub goes-on : (p : Progress) (waits : Bool) (left : ℕ) → canGoOn p waits left ≡ true → GoesOn p waits left
+pub can-go-on : (p : Progress) (waits : Bool) (left : ℕ) → canGoOn p waits left ≡ true → CanGoOn p waits left
 unfolding canGoOn
-goes-on p waits left h =
+can-go-on p waits left h =
     let h1 = both (not waits) _ h in
     let h2 = both (not (p .over)) _ (h1 .1) in
     let h3 = both (ltb (p .number) lastNumber) (leb longestText left) (h2 .1) in
@@ -176,7 +176,7 @@ module _ (ended : Bool) (s : List ℕ) (at : ℕ) (p₀ : Progress) (t₀ : List
     abbrev found : Found
     found = foundAt s place (p .phase) ended
 
-    module _ (g : GoesOn p waits (length out - written)) (t′ : Lists) (after : List ℕ) (a : Advanced)
+    module _ (g : CanGoOn p waits (length out - written)) (t′ : Lists) (after : List ℕ) (a : Advanced)
         (f : (stage : Stage) → Represents p t stage → Advances (moveOn place stage found s) (a .progress) t′ out after (a .next) written (a .written))
         (m : a .more ≡ isMore found)
       where

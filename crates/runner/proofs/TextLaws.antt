@@ -26,7 +26,7 @@ use Rattle.settlement.specs.declared.Reply.{Reply}
 use Rattle.settlement.specs.Replies.{roomIn, Replied}
 use Rattle.file.specs.declared.fields.Phase.{Phase}
 use Rattle.file.specs.Lines.{bookLine, recordLine, refusedLine, longestLine, Written}
-use Rattle.file.specs.Program.{recordPlaces, recordLines, answered}
+use Rattle.file.specs.Program.{settleRecords, recordLines, answered}
 use Rattle.file.proofs.PlacedLaws.{placed-none, placed-length, joined, loosened}
 use Rattle.runner.specs.declared.Advanced.{Advanced}
 use Rattle.runner.specs.Texts.{longestText, advancedTo, openedOver, openingText, replyText}
@@ -74,24 +74,24 @@ line-fits w count m less room same = omega (arith, w .end, w .short)
 
 -- with a list for 1,024 records
 module _ (w after : World) (f : Fields) (r : Reply) (lent out : List ℤ)
-    (long : length lent ≡ recordPlaces * recordSize) (p : Replied w after f r lent out) where
-  room-is : roomIn lent ≡ recordPlaces
+    (long : length lent ≡ settleRecords * recordSize) (p : Replied w after f r lent out) where
+  room-is : roomIn lent ≡ settleRecords
   room-is = omega arith
 
-  count-is : r .records ≡ length (recordsOf w f recordPlaces)
+  count-is : r .records ≡ length (recordsOf w f settleRecords)
   count-is = p .count ∙ ap (λ (n : ℕ). length (recordsOf w f n)) room-is
 
-  list-is : out ≡ numbersAfter (recordsOf w f recordPlaces) lent
+  list-is : out ≡ numbersAfter (recordsOf w f settleRecords) lent
   list-is = p .list ∙ ap (λ (n : ℕ). numbersAfter (recordsOf w f n) lent) room-is
 
-  pub few-records : r .records ≤ recordPlaces
-  few-records = let h = records-fit w f recordPlaces in let e = count-is in omega arith
+  pub few-records : r .records ≤ settleRecords
+  few-records = let h = records-fit w f settleRecords in let e = count-is in omega arith
 
   pub placed-records : (i : ℕ) → i < r .records → RecordPlaces out i
-  placed-records i l = rw list-is (records-placed (recordsOf w f recordPlaces) lent i (let e = count-is in omega arith))
+  placed-records i l = rw list-is (records-placed (recordsOf w f settleRecords) lent i (let e = count-is in omega arith))
 
-  read-records : listTo (recordAt out) (r .records) ≡ recordsOf w f recordPlaces
-  read-records = rw (count-is, list-is) (records-read (recordsOf w f recordPlaces) lent)
+  read-records : listTo (recordAt out) (r .records) ≡ recordsOf w f settleRecords
+  read-records = rw (count-is, list-is) (records-read (recordsOf w f settleRecords) lent)
 
   -- what is printed is the definition's text
   pub reply-text : (message : ℕ) → replyText r message out ≡ answered w f message
@@ -99,7 +99,7 @@ module _ (w after : World) (f : Fields) (r : Reply) (lent out : List ℤ)
   reply-text message = rw (p .number, room-is, read-records)
 
 module _ (r : Reply) (message : ℕ) (numbers : List ℤ) where
-  pub records-put : numberOf (r .answer) ≡ 0 → r .records ≤ recordPlaces → {from next : ℕ} {a b : List ℕ}
+  pub records-put : numberOf (r .answer) ≡ 0 → r .records ≤ settleRecords → {from next : ℕ} {a b : List ℕ}
       → Written (r .records * longestLine) a b from next (recordLines (listTo (recordAt numbers) (r .records)))
       → Written longestText a b from next (replyText r message numbers)
   unfolding replyText

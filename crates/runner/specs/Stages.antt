@@ -12,7 +12,7 @@ use Rattle.file.specs.declared.fields.Found.{Found}
 use Rattle.file.specs.declared.fields.Found.the-variants.{Month, Element, Message, End, More, Broken}
 use Rattle.file.specs.Field.{fieldIn, fieldFrom}
 use Rattle.file.specs.Lines.{bookLine}
-use Rattle.file.specs.Program.{endedBy, recordPlaces, answered, messagesFrom, Heading, collected, lentFor}
+use Rattle.file.specs.Program.{endedBy, settleRecords, answered, messagesFrom, Heading, collected, lentFor}
 use Rattle.file.specs.Program.{settleAnswer, elementsFrom, settled}
 
 -- before tag 1; after it, with the values of the elements so far; after the opening, with the number of the next message; at the end
@@ -84,7 +84,7 @@ moveOn at (elements h values) Broken bytes = broken at 1
 moveOn at (messages w number) (Month year month points suppliers next) bytes = broken at 1
 moveOn at (messages w number) (Element from size next) bytes = broken at 1
 moveOn at (messages w number) (Message f next) bytes =
-    record { text = answered w f number; stage = messages (step w f recordPlaces) (suc number); next = next }
+    record { text = answered w f number; stage = messages (step w f settleRecords) (suc number); next = next }
 moveOn at (messages w number) End bytes = quiet over at
 moveOn at (messages w number) More bytes = quiet (messages w number) at
 moveOn at (messages w number) Broken bytes = broken at 1

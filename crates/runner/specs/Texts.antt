@@ -1,5 +1,5 @@
 -- What an opening and a message print, as the code has it, and how far a run has come behind a field.
-use Prim.Native.Nat.{ℕ, _*_}
+use Prim.Native.Nat.{ℕ, _-_, _*_}
 use mathlib.Core.Bool.{Bool, true, false, cond}
 use mathlib.Core.List.{List}
 use lib.IntN.{ℤ}
@@ -11,18 +11,19 @@ use Rattle.rules.specs.Answers.{numberOf}
 use Rattle.ledger.specs.RecordNumbers.{recordAt}
 use Rattle.settlement.specs.declared.Reply.{Reply}
 use Rattle.file.specs.declared.fields.Phase.{Phase}
+use Rattle.file.specs.Bytes.{wordRoom}
 use Rattle.file.specs.Lines.{bookLine, refusedLine, longestLine}
-use Rattle.file.specs.Program.{recordPlaces, recordLines}
+use Rattle.file.specs.Program.{settleRecords, recordLines}
 use Rattle.runner.specs.declared.Progress.{Progress}
 use Rattle.runner.specs.declared.Advanced.{Advanced}
 
 -- no field prints more than a line for each record of a round
 abbrev pub longestText : ℕ
-longestText = recordPlaces * longestLine
+longestText = settleRecords * longestLine
 
--- no message has a greater number
+-- no message has a greater number: the last of 64 bits
 abbrev pub lastNumber : ℕ
-lastNumber = 18446744073709551615
+lastNumber = wordRoom - 1
 
 -- the run goes on from a place
 abbrev pub advancedTo : Phase → (over : Bool) → Book → (number next written : ℕ) → Advanced

@@ -6,7 +6,7 @@ ghost use mathlib.Core.Bool.{false};
 ghost use lib.ListN.{length, take, drop};
 ghost use Rattle.rules.specs.Sizes.{recordSize};
 ghost use Rattle.rules.specs.Lent.{Lists, given, lent, left, was};
-ghost use Rattle.file.specs.Program.{recordPlaces};
+ghost use Rattle.file.specs.Program.{settleRecords};
 ghost use Rattle.runner.specs.Stages.{Stage, start, moveOn, foundAt, isMore};
 ghost use Rattle.runner.specs.Parts.{Sized};
 ghost use Rattle.runner.specs.Texts.{longestText, lastNumber, advancedTo};
@@ -112,7 +112,7 @@ pub fn advance(
     requires { ⌜ Sized (given element_data prices links holders states readings blocks lines sent) ⌝ }
     requires { ⌜ Stands progress (given element_data prices links holders states readings blocks lines sent) ⌝ }
     requires { ⌜ (progress .over ≡ false) × (progress .number < lastNumber) × (at ≤ length (now s)) ⌝ }
-    requires { ⌜ (length (now records) ≡ recordPlaces * recordSize) × (from + longestText ≤ length (now out)) ⌝ }
+    requires { ⌜ (length (now records) ≡ settleRecords * recordSize) × (from + longestText ≤ length (now out)) ⌝ }
     ensures advances { λ r. ⌜ (let t = lent element_data prices links holders states readings blocks lines sent in
         (stage : Stage) → Represents progress (t .entry) stage
         → Advances (moveOn at stage (foundAt (was s) at (progress .phase) ended) (was s)) (r .progress) (t .exit)
@@ -173,7 +173,7 @@ pub struct Ran {
 }
 
 // Another field can be taken: the run is not over, no more bytes are needed, and there are a message number and room for the longest text.
-fn goes_on(progress: Progress, waits: bool, left: usize) -> bool
+fn can_go_on(progress: Progress, waits: bool, left: usize) -> bool
     ensures { λ r. ⌜ r ≡ canGoOn progress waits left ⌝ }
 {
     if waits {
@@ -211,7 +211,7 @@ pub fn run(
 ) -> Ran
     requires { ⌜ Sized (given element_data prices links holders states readings blocks lines sent) ⌝ }
     requires { ⌜ Stands progress (given element_data prices links holders states readings blocks lines sent) ⌝ }
-    requires { ⌜ (at ≤ length (now s)) × (length (now records) ≡ recordPlaces * recordSize) ⌝ }
+    requires { ⌜ (at ≤ length (now s)) × (length (now records) ≡ settleRecords * recordSize) ⌝ }
     ensures reached { λ r. ⌜ (let t = lent element_data prices links holders states readings blocks lines sent in
         (stage : Stage) → Represents progress (t .entry) stage
         → Reached ended stage (drop at (was s)) (take (r .written) (left out)) (r .progress) (t .exit) (drop (r .next) (was s))) ⌝ }
@@ -221,7 +221,7 @@ pub fn run(
     let mut place = at;
     let mut written = 0;
     let mut waits = false;
-    while goes_on(p, waits, out.len() - written) {
+    while can_go_on(p, waits, out.len() - written) {
         let a = advance(
             p,
             s,

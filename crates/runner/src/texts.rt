@@ -8,7 +8,7 @@ ghost use Rattle.rules.specs.Basics.{listTo};
 ghost use Rattle.rules.specs.Lent.{left, was};
 ghost use Rattle.ledger.specs.RecordNumbers.{recordAt, RecordPlaces};
 ghost use Rattle.file.specs.Lines.{longestLine, Written};
-ghost use Rattle.file.specs.Program.{recordPlaces, recordLines};
+ghost use Rattle.file.specs.Program.{settleRecords, recordLines};
 ghost use Rattle.runner.specs.Texts.{longestText, lastNumber, advancedTo, openedOver, openingText, replyText};
 use crate::Advanced;
 use crate::moved;
@@ -25,7 +25,7 @@ use validation::questions::number;
 
 // The lines of the first `count` records, which stand as numbers and go through a list of record structs. Linear in that list.
 fn put_records(records: &[i64], count: usize, out: &mut [u8], from: usize) -> usize
-    requires { ⌜ (count ≤ recordPlaces) × ((i : ℕ) → i < count → RecordPlaces (now records) i) ⌝ }
+    requires { ⌜ (count ≤ settleRecords) × ((i : ℕ) → i < count → RecordPlaces (now records) i) ⌝ }
     requires { ⌜ from + count * longestLine ≤ length (now out) ⌝ }
     ensures { λ r. ⌜ Written (count * longestLine) (was out) (left out) from r (recordLines (listTo (recordAt (was records)) count)) ⌝ }
 {
@@ -41,7 +41,7 @@ fn put_records(records: &[i64], count: usize, out: &mut [u8], from: usize) -> us
 
 // The records of a message that is accepted, or its refusal. A message without records lays out no list.
 fn put_reply(reply: Reply, message: u64, records: &[i64], out: &mut [u8], from: usize) -> usize
-    requires { ⌜ (reply .records ≤ recordPlaces) × ((i : ℕ) → i < reply .records → RecordPlaces (now records) i) ⌝ }
+    requires { ⌜ (reply .records ≤ settleRecords) × ((i : ℕ) → i < reply .records → RecordPlaces (now records) i) ⌝ }
     requires { ⌜ from + longestText ≤ length (now out) ⌝ }
     ensures { λ r. ⌜ Written longestText (was out) (left out) from r (replyText reply message (was records)) ⌝ }
 {
@@ -66,7 +66,7 @@ pub fn message_done(
     out: &mut [u8],
     from: usize,
 ) -> Advanced
-    requires { ⌜ (reply .records ≤ recordPlaces) × ((i : ℕ) → i < reply .records → RecordPlaces (now records) i) ⌝ }
+    requires { ⌜ (reply .records ≤ settleRecords) × ((i : ℕ) → i < reply .records → RecordPlaces (now records) i) ⌝ }
     requires { ⌜ (from + longestText ≤ length (now out)) × (message < lastNumber) ⌝ }
     ensures text { λ r. ⌜ Written longestText (was out) (left out) from (r .written) (replyText reply message (was records)) ⌝ }
     ensures moved { λ r. ⌜ r ≡ advancedTo Phase.Messages false (reply .book) (message + 1) next (r .written) ⌝ }

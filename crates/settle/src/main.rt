@@ -6,7 +6,7 @@ ghost use lib.ListN.{length, take, drop};
 ghost use Rattle.calendar.specs.Gregorian.{longestMonth};
 ghost use Rattle.rules.specs.Sizes.{hourPlaces, recordSize};
 ghost use Rattle.rules.specs.Lent.{left, was};
-ghost use Rattle.file.specs.Program.{recordPlaces, settlePoints};
+ghost use Rattle.file.specs.Program.{settleRecords, settlePoints};
 ghost use Rattle.runner.specs.Texts.{longestText};
 use libc::STDIN_FILENO;
 use libc::STDOUT_FILENO;
@@ -53,7 +53,7 @@ fn no_readings() -> [u32; READING_PLACES]
 }
 
 fn no_records() -> [i64; RECORD_PLACES]
-    ensures { λ r. ⌜ recordPlaces * recordSize ≡ length r ⌝ }
+    ensures { λ r. ⌜ settleRecords * recordSize ≡ length r ⌝ }
 {
     [0; RECORD_PLACES]
 }

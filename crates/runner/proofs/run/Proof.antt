@@ -7,8 +7,8 @@ use lib.IntN.{ℤ}
 use lib.ListN.{length}
 use Rattle.rules.specs.Sizes.{recordSize}
 use Rattle.rules.specs.Lent.{Lists, given, lendElements, lendTables, noLists}
-use Rattle.file.specs.Program.{recordPlaces}
-use Rattle.runner.proofs.RunLaws.{weight, Running, GoesOn, begins, goes-on, stands, turns, less, ends}
+use Rattle.file.specs.Program.{settleRecords}
+use Rattle.runner.proofs.RunLaws.{weight, Running, CanGoOn, begins, can-go-on, stands, turns, less, ends}
 use native.Mathlib.Omega.{arith}
 use borrow.Author.Needs.{needs}
 use Rattle.runner.proofs.run.Statement.{statement}
@@ -23,7 +23,7 @@ abbrev Inv-loop : tie.InvT-loop
 Inv-loop s at ended element-data₀ prices₀ links₀ holders₀ states₀ readings₀ blocks₀ lines₀ sent₀ records₀ out₀ p₀ place₀ written₀ waits₀ element-data prices links holders states readings blocks lines sent records out p place written waits =
     Running ended s at p₀ (tables element-data₀ prices₀ links₀ holders₀ states₀ readings₀ blocks₀ lines₀ sent₀) out₀
     (tables element-data prices links holders states readings blocks lines sent) out p place written waits
-    × (length records ≡ recordPlaces * recordSize)
+    × (length records ≡ settleRecords * recordSize)
 
 abbrev μ-loop : tie.MeasureT-loop
 μ-loop s at ended element-data₀ prices₀ links₀ holders₀ states₀ readings₀ blocks₀ lines₀ sent₀ records₀ out₀ p₀ place₀ written₀ waits₀ element-data prices links holders states readings blocks lines sent records out p place written waits =
@@ -57,10 +57,10 @@ now-lent c =
     tables (c .loop .element-data) (c .loop .prices) (c .loop .links) (c .loop .holders) (c .loop .states) (c .loop .readings)
     (c .loop .blocks) (c .loop .lines) (c .loop .sent)
 
-going : (c : Turn) → GoesOn (head-of c .loop .p) (head-of c .loop .waits) (length (head-of c .loop .out) - head-of c .loop .written)
+going : (c : Turn) → CanGoOn (head-of c .loop .p) (head-of c .loop .waits) (length (head-of c .loop .out) - head-of c .loop .written)
 going c =
-    let asked : tie.After-goes-on Inv-loop μ-loop = search in
-    goes-on (head-of c .loop .p) (head-of c .loop .waits) _ (sym (asked .goes-on .ensures) ∙ c .if1 .taken)
+    let asked : tie.After-can-go-on Inv-loop μ-loop = search in
+    can-go-on (head-of c .loop .p) (head-of c .loop .waits) _ (sym (asked .can-go-on .ensures) ∙ c .if1 .taken)
 
 loop-holds : tie.Need-loop-holds Inv-loop μ-loop
 loop-holds c =
@@ -68,11 +68,11 @@ loop-holds c =
     let a = start .args in
     (begins (a .ended) (a .s .now) (a .at) (a .progress) (lent start) (a .out .now) (start .pre .1 .1 .0) (start .pre .0), start .pre .1 .1 .1)
 
-sub-goes-on : tie.Need-sub-goes-on Inv-loop μ-loop
-sub-goes-on c = let i = c .loop .inv .0 in omega (arith, i .long, i .text)
+sub-can-go-on : tie.Need-sub-can-go-on Inv-loop μ-loop
+sub-can-go-on c = let i = c .loop .inv .0 in omega (arith, i .long, i .text)
 
-goes-on-requires : tie.Need-goes-on-requires Inv-loop μ-loop
-goes-on-requires c κs = search needs
+can-go-on-requires : tie.Need-can-go-on-requires Inv-loop μ-loop
+can-go-on-requires c κs = search needs
 
 advance-requires : tie.Need-advance-requires Inv-loop μ-loop
 advance-requires c κs =
@@ -187,14 +187,14 @@ returns : tie.Need-returns Inv-loop μ-loop
 returns c =
     let head : Head = search in
     let start = start-of head in
-    let asked : tie.After-goes-on Inv-loop μ-loop = search in
+    let asked : tie.After-can-go-on Inv-loop μ-loop = search in
     let no : tie.Else1 Inv-loop μ-loop = search in
     let a = start .args in
     let l = head .loop in
     let u = l .inv .0 in (
       u .reached,
       ends (a .ended) (a .s .now) (a .at) (a .progress) (lent start) (a .out .now) (now-lent head) (l .out) (l .p) (l .place)
-          (l .written) (l .waits) u (sym (asked .goes-on .ensures) ∙ no .if1 .left),
+          (l .written) (l .waits) u (sym (asked .can-go-on .ensures) ∙ no .if1 .left),
     )
 
 pub run-spec : {M : Type 1} → statement M
@@ -204,8 +204,8 @@ run-spec =
     Inv-loop
     μ-loop
     loop-holds
-    sub-goes-on
-    goes-on-requires
+    sub-can-go-on
+    can-go-on-requires
     advance-requires
     loop-less
     loop-again

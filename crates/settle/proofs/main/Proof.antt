@@ -7,7 +7,7 @@ use lib.ListN.{length}
 use lib.Seq.{length-take-le}
 use Rattle.rules.specs.Sizes.{recordSize}
 use Rattle.rules.specs.Lent.{Lists, lendElements, lendTables, noLists}
-use Rattle.file.specs.Program.{recordPlaces}
+use Rattle.file.specs.Program.{settleRecords}
 use Rattle.runner.specs.Stages.{start}
 use Rattle.runner.specs.Texts.{longestText}
 use Rattle.runner.specs.Parts.{Sized}
@@ -26,7 +26,7 @@ abbrev Inv-loop : tie.InvT-loop
 Inv-loop element-data₀ prices₀ links₀ holders₀ states₀ readings₀ blocks₀ lines₀ sent₀ records₀ out₀ buffer₀ progress₀ have₀ ended₀ turns₀ element-data prices links holders states readings blocks lines sent records out buffer progress have ended turns =
     Sized (tables element-data prices links holders states readings blocks lines sent)
     × Stands progress (tables element-data prices links holders states readings blocks lines sent)
-    × (length buffer ≡ 65536) × (have ≤ 65536) × (length out ≡ 2 * longestText) × (length records ≡ recordPlaces * recordSize)
+    × (length buffer ≡ 65536) × (have ≤ 65536) × (length out ≡ 2 * longestText) × (length records ≡ settleRecords * recordSize)
 
 abbrev μ-loop : tie.MeasureT-loop
 μ-loop element-data₀ prices₀ links₀ holders₀ states₀ readings₀ blocks₀ lines₀ sent₀ records₀ out₀ buffer₀ progress₀ have₀ ended₀ turns₀ element-data prices links holders states readings blocks lines sent records out buffer progress have ended turns =

@@ -1,8 +1,8 @@
--- `goes_on` meets its contract: the four tests, in the definition's order.
+-- `can_go_on` meets its contract: the four tests, in the definition's order.
 use borrow.Author.Tests.{lt-ltb, le-ltb}
 use Rattle.runner.specs.Holding.{canGoOn}
-use Rattle.runner.proofs.goes_on.Statement.{statement}
-use Rattle.runner.proofs.goes_on.Tie as tie
+use Rattle.runner.proofs.can_go_on.Statement.{statement}
+use Rattle.runner.proofs.can_go_on.Tie as tie
 
 returns : tie.Need-returns
 unfolding canGoOn
@@ -20,5 +20,5 @@ returns-4 : tie.Need-returns-4
 unfolding canGoOn
 returns-4 c = rw (c .before .before .before .if1 .left, c .before .before .if2 .left, le-ltb _ _ (c .if3 .left))
 
-pub goes-on-spec : {M : Type 1} → statement M
-goes-on-spec = tie.close (tie.spec returns returns-2 returns-3 returns-4)
+pub can-go-on-spec : {M : Type 1} → statement M
+can-go-on-spec = tie.close (tie.spec returns returns-2 returns-3 returns-4)
