@@ -73,7 +73,9 @@ some-digit n = cases (ltb n 10)
     (λ t. rw (decimal-small n (ltb-true n 10 t)) (omega arith))
     (λ t. rw (decimal-more n (ltb-false n 10 t), length-append) (omega arith))
 
--- ---- no leading zero: the first digit of a positive number is 1 to 9
+-- ---- checks of the definition, which no proof cites
+
+-- "no leading zeros": the first digit of a positive number is 1 to 9
 
 pub no-leading-zero : (n : ℕ) → 0 < n → 49 ≤ getD (decimal n) 0 0
 no-leading-zero n = by-digits {P = λ m. 0 < m → 49 ≤ getD (decimal m) 0 0}
@@ -81,8 +83,6 @@ no-leading-zero n = by-digits {P = λ m. 0 < m → 49 ≤ getD (decimal m) 0 0}
     (λ m s p h. rw (decimal-more m s, List·getD-append (decimal (m / 10)) (digit (m % 10) ∷ []) 0 0 (some-digit (m / 10)))
     (p (omega arith)))
     n
-
--- ---- read back
 
 following-more : (n : ℕ) (cs : List ℕ) (c : ℕ) → digitsFollowing n (cs ++ (c ∷ [])) ≡ digitsFollowing n cs * 10 + (c - 48)
 unfolding digitsFollowing
@@ -97,11 +97,8 @@ number-more : (cs : List ℕ) (c : ℕ) → decimalNumber (cs ++ (c ∷ [])) ≡
 unfolding decimalNumber
 number-more cs c = following-more 0 cs c
 
+-- the digits, read back, are the number
 pub read-back : (n : ℕ) → decimalNumber (decimal n) ≡ n
 read-back = by-digits {P = λ m. decimalNumber (decimal m) ≡ m}
     (λ m s. rw (decimal-small m s, number-small (48 + m)) (omega arith))
     (λ m s p. rw (decimal-more m s, number-more (decimal (m / 10)) (48 + m % 10), p) (omega arith))
-
--- two numbers with the same text are equal
-pub same-text : (m n : ℕ) → decimal m ≡ decimal n → m ≡ n
-same-text m n e = sym (read-back m) ∙ ap decimalNumber e ∙ read-back n

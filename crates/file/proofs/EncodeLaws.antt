@@ -11,7 +11,7 @@ use lib.Signed.{mag}
 use lib.Dec.{eqb}
 use native.Mathlib.Nat.{pow-suc}
 use native.Mathlib.Omega.{arith}
-use borrow.Author.Tests.{le-leb, lt-leb, eq-eqb}
+use borrow.Author.Tests.{le-leb, eq-eqb}
 use Rattle.integers.proofs.Linear.{lin, #, nat, _⊝_}
 use Rattle.rules.specs.Sizes.{pricePlaces}
 use Rattle.rules.proofs.Tests.{cases}
@@ -200,7 +200,3 @@ price-decoded kind owner marks ps k h m =
     )
     (ap (λ (bs : List ℕ). signed64 (take 8 bs)) (tail-prices kind owner marks ps k ∙ ap encodePrices (drop-cons ps k (pos 0) h))
     ∙ first-price (getD ps k (pos 0)) (drop (suc k) ps) m)
-
-pub price-none : (kind owner marks : ℕ) (ps : List ℤ) (k : ℕ) → length ps ≤ k → priceAt (elementValue kind owner marks ps) k ≡ pos 0
-unfolding priceAt
-price-none kind owner marks ps k h = rw (value-length kind owner marks ps, lt-leb (11 + 8 * k) (3 + 8 * length ps) (omega arith))

@@ -259,23 +259,14 @@ pub whole-run : (s text : List ℕ) (p : Progress) (t : Lists) (left : List ℕ)
 unfolding printed
 whole-run s text p t left r o = sym (run-over true start s text p t left r o [] (λ e. refl)) ∙ ap settled (append-nil s)
 
--- a run that goes on over the bytes that were left, with more behind them
-pub runs-joined : (ended : Bool) (stage : Stage) (front more text text′ : List ℕ) (p p′ : Progress) (t t′ : Lists) (left left′ : List ℕ) → (r : Reached false stage front text p t left)
+-- a run that goes on over the bytes that were left, with more behind them; with none where the input had ended and the output was full
+pub runs-joined : (first ended : Bool) (stage : Stage) (front more text text′ : List ℕ) (p p′ : Progress) (t t′ : Lists) (left left′ : List ℕ)
+    → (first ≡ true → (ended ≡ true) × (more ≡ [])) → (r : Reached first stage front text p t left)
     → Reached ended (r .stage) (left ++ more) text′ p′ t′ left′ → Reached ended stage (front ++ more) (text ++ text′) p′ t′ left′
-runs-joined ended stage front more text text′ p p′ t t′ left left′ r q =
+runs-joined first ended stage front more text text′ p p′ t t′ left left′ h r q =
     record {
       stage = q .stage;
       holds = q .holds;
-      same = λ rest e. rw (append-assoc front more rest) (r .same (more ++ rest) (λ z. never (sym z)))
+      same = λ rest e. rw (append-assoc front more rest) (r .same (more ++ rest) (λ z. rw (h z .1) (e (h z .0))))
           ∙ ap (λ (x : List ℕ). text ++ x) (rw (append-assoc left more rest) at (q .same rest e)) ∙ sym (append-assoc text text′ _);
-    }
-
--- or over the same bytes, where the output was full
-pub runs-follow : (ended : Bool) (stage : Stage) (front text text′ : List ℕ) (p p′ : Progress) (t t′ : Lists) (left left′ : List ℕ) → (r : Reached ended stage front text p t left)
-    → Reached ended (r .stage) left text′ p′ t′ left′ → Reached ended stage front (text ++ text′) p′ t′ left′
-runs-follow ended stage front text text′ p p′ t t′ left left′ r q =
-    record {
-      stage = q .stage;
-      holds = q .holds;
-      same = λ rest e. r .same rest e ∙ ap (λ (x : List ℕ). text ++ x) (q .same rest e) ∙ sym (append-assoc text text′ _);
     }
