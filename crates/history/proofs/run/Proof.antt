@@ -1,7 +1,7 @@
 -- After i turns the world, the list and the table of answers are those of the rules' run of the first i messages, and every lent list has
 -- its length.
 use Prim.Native.Nat.{ℕ, _+_, _-_, _*_, _/_, _^_, _≤_, _<_, min}
-use mathlib.Core.Path.{_≡_, refl, _∙_}
+use mathlib.Core.Path.{_≡_, refl}
 use mathlib.Core.List.{List}
 use lib.IntN.{ℤ}
 use lib.ListN.{length}
@@ -172,7 +172,7 @@ loop-again c =
     let read = read-of replied in
     let t = counted-of turn .taken .ensures in
     let l = turn .loop-test .taken in
-    let k = replied .message .kept .1 .1 .1 in
+    let k = replied .message .kept in
     let v = turn .before .loop .inv in
     let h = fits turn in
     let list = turn .before .loop .records in
@@ -180,13 +180,13 @@ loop-again c =
     let q = replied-tail _ _ _ _ list _ at (omega arith) (replied .message .ensures) in (
       omega arith,
       followed-turn _ _ _ _ _ _ _ _ _ (v .1) _ _ _ _ _ (omega arith) (read .fields-at .ensures) (q .0) (q .1) (numbered .number .ensures),
-      k .0 ∙ v .2,
-      k .1 .0 ∙ v .3,
-      k .1 .1 .0 ∙ v .4,
-      k .1 .1 .1 .0 ∙ v .5,
-      k .1 .1 .1 .1 .0 ∙ v .6,
-      k .1 .1 .1 .1 .1 .0 ∙ v .7,
-      k .1 .1 .1 .1 .1 .1 .0 ∙ v .8,
+      omega (arith, k, v .2),
+      omega (arith, k, v .3),
+      omega (arith, k, v .4),
+      omega (arith, k, v .5),
+      omega (arith, k, v .6),
+      omega (arith, k, v .7),
+      omega (arith, k, v .8),
     )
 
 same-length : tie.Need-same-length Inv-loop μ-loop

@@ -372,7 +372,7 @@ returns-2 c =
     let known = known-of made in
     let s = start-of known in
     let a = s .args in
-    let k = replied .message .kept .1 .1 .1 .1 .1 .1 in
+    let k = replied .message .kept in
     let e = done .message-done .ensures in
     let t = taking known in
     let m : isMore (foundAt (a .s .now) (a .at) (a .progress .phase) (a .ended)) ≡ false =
@@ -384,7 +384,7 @@ returns-2 c =
           ∙ ap (λ (f : Found). moveOn (a .at) (messages (frontsWorld (a .progress .book) (lent s)) (a .progress .number)) f (a .s .now))
           (sym (found-is (asked-of known)) ∙ t .found-is))
           (arm-message (a .progress .book) (lent s) (ends made) (made .ends-of .ensures) (s .pre .0) (fitted known) _ _ _ _ _ _ _
-          (record { readings = k .0; blocks = k .1 .0; lines = k .1 .1 .0; sent = k .1 .1 .1 .0 }) _ (replied .message .result)
+          (record { readings = omega (arith, k); blocks = omega (arith, k); lines = omega (arith, k); sent = omega (arith, k) }) _ (replied .message .result)
           (a .at) _ (a .progress .number) (a .s .now) _ _ (s .pre .1 .1 .1 .0) (replied .message .ensures .0) (replied .message .ensures .1)
           (open-book known .points) _ _ (a .from) (done .message-done .result) (e .0) (e .1)),
       ap (λ (r : Advanced). r .more) (e .1) ∙ sym m,

@@ -111,21 +111,21 @@ loop-again c =
     let a = start .args in
     let l = head .loop in
     let z = l .inv .0 .sized in
-    let k = done .advance .kept .1 .1 .1 .1 in (
+    let k = done .advance .kept in (
       turns (a .ended) (a .s .now) (a .at) (a .progress) (lent start) (a .out .now) (now-lent head) (l .out) (l .p) (l .place) (l .written)
           (l .waits) (l .inv .0) (start .pre .1 .0) (going turn) _ _ (done .advance .result) (done .advance .ensures .0) (done .advance .ensures .1)
           (record {
-            elementData = k .0 ∙ z .elementData;
-            prices = k .1 .0 ∙ z .prices;
-            links = k .1 .1 .0 ∙ z .links;
-            holders = k .1 .1 .1 .0 ∙ z .holders;
-            states = k .1 .1 .1 .1 .0 ∙ z .states;
-            readings = k .1 .1 .1 .1 .1 .0 ∙ z .readings;
-            blocks = k .1 .1 .1 .1 .1 .1 .0 ∙ z .blocks;
-            lines = k .1 .1 .1 .1 .1 .1 .1 .0 ∙ z .lines;
-            sent = k .1 .1 .1 .1 .1 .1 .1 .1 .0 ∙ z .sent;
-          }) (k .1 .1 .1 .1 .1 .1 .1 .1 .1 .1 .0),
-      k .1 .1 .1 .1 .1 .1 .1 .1 .1 .0 ∙ l .inv .1,
+            elementData = omega (arith, k, z);
+            prices = omega (arith, k, z);
+            links = omega (arith, k, z);
+            holders = omega (arith, k, z);
+            states = omega (arith, k, z);
+            readings = omega (arith, k, z);
+            blocks = omega (arith, k, z);
+            lines = omega (arith, k, z);
+            sent = omega (arith, k, z);
+          }) (omega (arith, k)),
+      omega (arith, k, l .inv .1),
     )
 
 same-length : tie.Need-same-length Inv-loop μ-loop

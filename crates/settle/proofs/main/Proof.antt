@@ -203,23 +203,23 @@ loop-again c =
     let r = ran .run .ensures .0 (l .1 .stage) (l .1 .holds) in
     let m = more .read-more .ensures in
     let b = m .2 ∙ kept .keep-rest .kept .0 ∙ l .2 in
-    let k = ran .run .kept .1 .1 .1 .1 in (
+    let k = ran .run .kept in (
       record {
-        elementData = k .0 ∙ l .0 .elementData;
-        prices = k .1 .0 ∙ l .0 .prices;
-        links = k .1 .1 .0 ∙ l .0 .links;
-        holders = k .1 .1 .1 .0 ∙ l .0 .holders;
-        states = k .1 .1 .1 .1 .0 ∙ l .0 .states;
-        readings = k .1 .1 .1 .1 .1 .0 ∙ l .0 .readings;
-        blocks = k .1 .1 .1 .1 .1 .1 .0 ∙ l .0 .blocks;
-        lines = k .1 .1 .1 .1 .1 .1 .1 .0 ∙ l .0 .lines;
-        sent = k .1 .1 .1 .1 .1 .1 .1 .1 .0 ∙ l .0 .sent;
+        elementData = omega (arith, k, l .0);
+        prices = omega (arith, k, l .0);
+        links = omega (arith, k, l .0);
+        holders = omega (arith, k, l .0);
+        states = omega (arith, k, l .0);
+        readings = omega (arith, k, l .0);
+        blocks = omega (arith, k, l .0);
+        lines = omega (arith, k, l .0);
+        sent = omega (arith, k, l .0);
       },
       record { stage = r .stage; holds = r .holds },
       b,
       omega (arith, m .1, b),
-      k .1 .1 .1 .1 .1 .1 .1 .1 .1 .1 .0 ∙ l .4,
-      k .1 .1 .1 .1 .1 .1 .1 .1 .1 .0 ∙ l .5,
+      omega (arith, k, l .4),
+      omega (arith, k, l .5),
     )
 
 returns-2 : tie.Need-returns-2 Inv-loop μ-loop

@@ -4,6 +4,7 @@ use lib.Seq.{length-take-le}
 use Rattle.rules.specs.Lent.{Lists, lendTables}
 use Rattle.runner.specs.Parts.{cutTo}
 use Rattle.runner.proofs.PartLaws.{Within, within, cleared-back}
+use native.Mathlib.Omega.{arith}
 use borrow.Author.Needs.{needs}
 use Rattle.runner.proofs.parts.clear_parts.Statement.{statement}
 use Rattle.runner.proofs.parts.clear_parts.Tie as tie
@@ -90,10 +91,10 @@ returns c o =
     let ends = ends-before done in
     let start = start-of ends in
     let v = inside ends in
-    let k = done .clear-tables .kept .1 .1 .1 in
+    let k = done .clear-tables .kept in
     cleared-back (start .args .book) (lent start o) (ends .ends-of .result) (ends .ends-of .ensures)
     (record { readings = v .readings; blocks = v .blocks; lines = v .lines; sent = v .sent }) _ _ _ _ _ _ _
-    (record { readings = k .0; blocks = k .1 .0; lines = k .1 .1 .0; sent = k .1 .1 .1 .0 })
+    (record { readings = omega (arith, k); blocks = omega (arith, k); lines = omega (arith, k); sent = omega (arith, k) })
     (done .clear-tables .ensures (cutTo (ends .ends-of .result) (lent start o)))
 
 pub clear-parts-spec : {M : Type 1} → statement M
