@@ -20,7 +20,6 @@ use rules::LINE_SIZE;
 use rules::MOST_ELEMENTS;
 use rules::MOST_LINES;
 use rules::PRICE_PLACES;
-use rules::RECORD_SIZE;
 use validation::limits::is_limited;
 
 // "`settle` takes at most 16 points; more is question 2."
@@ -36,8 +35,6 @@ pub const READING_PLACES: usize = BLOCK_PLACES * LONGEST_MONTH * HOUR_PLACES;
 pub const BLOCK_PLACES: usize = SETTLE_POINTS as usize;
 
 pub const LINE_TABLE_PLACES: usize = MOST_LINES * LINE_SIZE;
-// Six numbers for each of 1,024 records.
-pub const RECORD_PLACES: usize = MOST_LINES * RECORD_SIZE;
 
 // Where the parts of a book end.
 pub struct Ends {

@@ -11,6 +11,7 @@ ghost use Rattle.runner.specs.Texts.{longestText};
 use libc::STDIN_FILENO;
 use libc::STDOUT_FILENO;
 use rules::PLACES;
+use rules::RECORD_NUMBERS;
 use runner::LONGEST_TEXT;
 use runner::begin;
 use runner::parts::BLOCK_PLACES;
@@ -18,7 +19,6 @@ use runner::parts::DATA_PLACES;
 use runner::parts::LINE_TABLE_PLACES;
 use runner::parts::PRICE_TABLE_PLACES;
 use runner::parts::READING_PLACES;
-use runner::parts::RECORD_PLACES;
 use runner::run;
 
 // The bytes from `at` up to `have` come to the front of the buffer; how many there are.
@@ -52,10 +52,10 @@ fn no_readings() -> [u32; READING_PLACES]
     [0; READING_PLACES]
 }
 
-fn no_records() -> [i64; RECORD_PLACES]
+fn no_records() -> [i64; RECORD_NUMBERS]
     ensures { λ r. ⌜ settleRecords * recordSize ≡ length r ⌝ }
 {
-    [0; RECORD_PLACES]
+    [0; RECORD_NUMBERS]
 }
 
 // Room for the longest text of a field, and as much again, so that not every field is written by itself.
