@@ -38,9 +38,6 @@ ghost use Rattle.tables.specs.Search.{Changed, cutRow, cutBefore, putIn,
 ghost use Rattle.tables.specs.RowRange.{pointRows};
 ghost use Rattle.rules.specs.Lent.{Lists, noLists, openingIn, lendData, left, was};
 
-// The largest word of 64 bits, which no row reaches.
-const LARGEST_WORD: u64 = 18446744073709551615;
-
 // ---- fields, in constant time
 
 pub fn point_of(word: u64) -> u64
@@ -170,7 +167,8 @@ pub fn row_from(table: &[u64], used: usize, word: u64) -> u64
     if at < used {
         return table[at];
     }
-    LARGEST_WORD
+    // no row reaches the largest word
+    u64::MAX
 }
 
 // The place of the row that covers the day, or the first place behind the rows where none does. Logarithmic in the rows:
