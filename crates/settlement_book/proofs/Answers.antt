@@ -202,15 +202,16 @@ unfolding answer
 answer-book w f room h = book-refused w h _
 
 -- of the book and the fields that numbers name; the book's numbers are put
-pub replies-in : {b b₀ : Book} {f f₀ : Fields} (o after : Lists) (r : Reply) (lent out : List ℤ) (numbers : List ℕ) (n : ℕ) → b ≡ b₀ → f ≡ f₀
-    → Replied (worldIn b o) (worldIn (r .book) after) f r lent out → numbers ≡ numbersIn (r .book) → n ≡ numberOf (r .answer)
-    → RepliesIn (worldIn b₀ o) (worldIn (bookIn numbers) after) f₀ n (r .records) lent out
-replies-in {b = b} {b₀ = b₀} {f = f} {f₀ = f₀} o after r lent out numbers n e d h k i =
+pub replies-in : {b b₀ : Book} {f f₀ : Fields} (o after : Lists) (r : Reply) (lent out : List ℤ) (numbers : List ℕ) (n count : ℕ)
+    → b ≡ b₀ → f ≡ f₀ → Replied (worldIn b o) (worldIn (r .book) after) f r lent out
+    → n ≡ numberOf (r .answer) → numbers ≡ numbersIn (r .book) → count ≡ r .records
+    → RepliesIn (worldIn b₀ o) (worldIn (bookIn numbers) after) f₀ n count lent out
+replies-in {b = b} {b₀ = b₀} {f = f} {f₀ = f₀} o after r lent out numbers n count e d h i k c =
     let h₁ = subst (λ (x : Book). Replied (worldIn x o) (worldIn (r .book) after) f r lent out) e h in
     let h₂ = subst (λ (x : Fields). Replied (worldIn b₀ o) (worldIn (r .book) after) x r lent out) d h₁ in
     record {
       number = i ∙ h₂ .number;
       world = ap (λ (x : List ℕ). worldIn (bookIn x) after) k ∙ h₂ .world;
       list = h₂ .list;
-      count = h₂ .count;
+      count = c ∙ h₂ .count;
     }

@@ -24,6 +24,7 @@ use crate::numbers::fields_of;
 use crate::numbers::put_book;
 use crate::numbers::put_day;
 use crate::numbers::put_line;
+use crate::numbers::put_reply;
 use crate::questions::Lengths;
 use crate::questions::check_book;
 use crate::questions::check_opening;
@@ -193,11 +194,7 @@ pub extern "C" fn settlement_book_message(
         records,
         fields_of(fields),
     );
-    let answer = reply.answer;
-    let after = reply.book;
-    put_book(book, after);
-    *count = reply.records as u64;
-    number(answer)
+    put_reply(reply, book, count)
 }
 
 // The same of a book that is well formed, and stays so. Cost: as for `settlement::message`.
@@ -239,11 +236,7 @@ pub extern "C" fn settlement_book_message_within(
         records,
         fields_of(fields),
     );
-    let answer = reply.answer;
-    let after = reply.book;
-    put_book(book, after);
-    *count = reply.records as u64;
-    number(answer)
+    put_reply(reply, book, count)
 }
 
 // ---- the line query

@@ -2,7 +2,7 @@
 ghost use mathlib.Core.Path.{_≡_};
 ghost use Prim.Native.Nat.{_≤_};
 ghost use lib.ListN.{length};
-ghost use Rattle.rules.specs.Answers.{lineResult};
+ghost use Rattle.rules.specs.Answers.{lineResult, numberOf};
 ghost use Rattle.rules.specs.Sizes.{lineSize};
 ghost use Rattle.rules.specs.Lent.{left, was};
 ghost use Rattle.settlement_book.specs.Numbers.{bookSize, fieldsSize, bookIn, numbersIn, fieldsIn};
@@ -12,6 +12,7 @@ use rules::DayAnswer;
 use rules::END_OF_DAYS;
 use rules::Fields;
 use rules::LineAnswer;
+use settlement::Reply;
 use validation::questions::number;
 
 // ---- a book and a message
@@ -70,7 +71,21 @@ pub fn fields_of(numbers: &[u64]) -> Fields
     }
 }
 
-// ---- answers to queries
+// ---- answers
+
+// What a message has left: the book's numbers, how many records there are, and the question that says no, or 0.
+pub fn put_reply(reply: Reply, book: &mut [u64], count: &mut u64) -> u64
+    requires { ⌜ length (now book) ≡ bookSize ⌝ }
+    ensures number { λ r. ⌜ r ≡ numberOf (reply .answer) ⌝ }
+    ensures book { λ _. ⌜ left book ≡ numbersIn (reply .book) ⌝ }
+    ensures count { λ _. ⌜ left count ≡ reply .records ⌝ }
+{
+    let answer = reply.answer;
+    let after = reply.book;
+    put_book(book, after);
+    *count = reply.records as u64;
+    number(answer)
+}
 
 // The line's three numbers, or the question that says no; a refusal writes nothing.
 pub fn put_line(answer: LineAnswer, line: &mut [i64]) -> u64

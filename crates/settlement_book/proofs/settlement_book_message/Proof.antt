@@ -15,7 +15,7 @@ named-of c = search
 abbrev fields-before : tie.After-message → tie.After-fields-of
 fields-before c = search
 
-abbrev replied-of : tie.After-put-book → tie.After-message
+abbrev replied-of : tie.After-put-reply → tie.After-message
 replied-of c = search
 
 abbrev book-sized : tie.After-message → tie.Else1
@@ -49,13 +49,10 @@ fields-of-requires c κs = search needs
 message-requires : tie.Need-message-requires
 message-requires c κs = search needs
 
-put-book-requires : tie.Need-put-book-requires
-put-book-requires c κs =
+put-reply-requires : tie.Need-put-reply-requires
+put-reply-requires c κs =
     let replied : tie.After-message = search in
     book-sized replied .if1 .left
-
-number-requires-3 : tie.Need-number-requires-3
-number-requires-3 c κs = search needs
 
 same-length : tie.Need-same-length
 same-length c = search needs
@@ -86,12 +83,12 @@ same-length-9 c = search needs
 
 returns-3 : tie.Need-returns-3
 returns-3 c =
-    let put : tie.After-put-book = search in
-    let numbered : tie.After-number3 = search in
+    let put : tie.After-put-reply = search in
     let replied = replied-of put in
-    let start = start-of (named-of replied) in (
-      λ _. replies-in _ _ (replied .message .result) (start .args .records .now) _ _ _ (named-of replied .book-of .ensures)
-          (fields-before replied .fields-of .ensures) (replied .message .ensures) (put .put-book .ensures) (numbered .number3 .ensures),
+    let start = start-of (named-of replied) in
+    let e = put .put-reply .ensures in (
+      λ _. replies-in _ _ (replied .message .result) (start .args .records .now) _ _ _ _ (named-of replied .book-of .ensures)
+          (fields-before replied .fields-of .ensures) (replied .message .ensures) (e .0) (e .1 .0) (e .1 .1),
       λ short. absurd (short (book-sized replied .if1 .left, fields-sized replied .if2 .left)),
     )
 
@@ -106,8 +103,7 @@ settlement-book-message-spec =
     book-of-requires
     fields-of-requires
     message-requires
-    put-book-requires
-    number-requires-3
+    put-reply-requires
     same-length
     same-length-2
     same-length-3

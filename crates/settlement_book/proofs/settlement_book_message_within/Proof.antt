@@ -14,7 +14,7 @@ named-of c = search
 abbrev fields-before : tie.After-message → tie.After-fields-of
 fields-before c = search
 
-abbrev replied-of : tie.After-put-book → tie.After-message
+abbrev replied-of : tie.After-put-reply → tie.After-message
 replied-of c = search
 
 book-of-requires : tie.Need-book-of-requires
@@ -29,13 +29,10 @@ message-requires c κs =
     let start = start-of named in
     whole-as (named .book-of .ensures) (start .pre .1)
 
-put-book-requires : tie.Need-put-book-requires
-put-book-requires c κs =
+put-reply-requires : tie.Need-put-reply-requires
+put-reply-requires c κs =
     let replied : tie.After-message = search in
     start-of (named-of replied) .pre .0 .0
-
-number-requires : tie.Need-number-requires
-number-requires c κs = search needs
 
 same-length : tie.Need-same-length
 same-length c = search needs
@@ -66,13 +63,13 @@ same-length-9 c = search needs
 
 returns : tie.Need-returns
 returns c =
-    let put : tie.After-put-book = search in
-    let numbered : tie.After-number = search in
+    let put : tie.After-put-reply = search in
     let replied = replied-of put in
-    let start = start-of (named-of replied) in (
-      replies-in _ _ (replied .message .result) (start .args .records .now) _ _ _ (named-of replied .book-of .ensures)
-          (fields-before replied .fields-of .ensures) (replied .message .ensures .0) (put .put-book .ensures) (numbered .number .ensures),
-      put-whole _ _ _ (put .put-book .ensures) (replied .message .ensures .1),
+    let start = start-of (named-of replied) in
+    let e = put .put-reply .ensures in (
+      replies-in _ _ (replied .message .result) (start .args .records .now) _ _ _ _ (named-of replied .book-of .ensures)
+          (fields-before replied .fields-of .ensures) (replied .message .ensures .0) (e .0) (e .1 .0) (e .1 .1),
+      put-whole _ _ _ (e .1 .0) (replied .message .ensures .1),
     )
 
 pub settlement-book-message-within-spec : {M : Type 1} → statement M
@@ -82,8 +79,7 @@ settlement-book-message-within-spec =
     book-of-requires
     fields-of-requires
     message-requires
-    put-book-requires
-    number-requires
+    put-reply-requires
     same-length
     same-length-2
     same-length-3
