@@ -38,7 +38,8 @@ no-link o t Round h = refl
 -- ---- a message that has passed the questions before 17
 
 module _ (b : Book) (o : Lists) where
-  pub link-fits : (x : Body) → Ready (openingIn b o) (tablesIn b o) x → length (o .elementData) ≡ b .elements * elementSize → LinkFits (o .elementData) x
+  pub link-fits : (x : Body) → Ready (openingIn b o) (tablesIn b o) x → length (o .elementData) ≡ b .elements * elementSize
+      → LinkFits (o .elementData) x
   unfolding pointOf
   link-fits (Link p e d q) r l =
       let i = point-inside (openingIn b o) (tablesIn b o) (Link p e d q) p refl (r .point) in

@@ -19,9 +19,11 @@ use Rattle.rules.specs.declared.Fields.{Fields}
 use Rattle.file.specs.declared.fields.Phase.{Phase}
 use Rattle.file.specs.declared.fields.Found.the-variants.{Month, Element, Message}
 use Rattle.file.specs.Bytes.{followed, bytesNumber, numberIn, twosComplement, signed64}
-use Rattle.file.specs.Field.{tagOf, lengthOf, marksIn, tagAllowed, elementLength, lengthDue, headerRight, monthIn, messageFields, fieldNamed, rightField, wholeField, fieldOf}
+use Rattle.file.specs.Field.{tagOf, lengthOf, marksIn, tagAllowed, elementLength, lengthDue, headerRight, monthIn, messageFields}
+use Rattle.file.specs.Field.{fieldNamed, rightField, wholeField, fieldOf}
 use Rattle.file.specs.Element.{priceAt}
-use Rattle.file.specs.Encode.{numberBytes, encodeField, encodeMonth, complement, encodePrices, elementValue, encodeElement, messageValue, encodeMessage, FieldsFit}
+use Rattle.file.specs.Encode.{numberBytes, encodeField, encodeMonth, complement, encodePrices, elementValue, encodeElement}
+use Rattle.file.specs.Encode.{messageValue, encodeMessage, FieldsFit}
 use Rattle.file.proofs.ByteLaws.{bytes-more, bytes-none, low-half, high-half}
 use Rattle.file.proofs.FieldLaws.{element-bounds}
 

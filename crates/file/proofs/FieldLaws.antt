@@ -15,7 +15,9 @@ use Rattle.file.specs.declared.fields.Phase.{Phase}
 use Rattle.file.specs.declared.fields.Found.{Found}
 use Rattle.file.specs.declared.fields.Found.the-variants.{Month, Element, Message, End, More, Broken}
 use Rattle.file.specs.Bytes.{numberIn}
-use Rattle.file.specs.Field.{headerSize, hourlyLength, tagOf, lengthOf, marksIn, tagAllowed, elementLength, lengthDue, headerRight, monthIn, messageFields, fieldNamed, rightField, wholeField, fieldOf, cutOff, fieldIn, fieldFrom, RightField, Inside}
+use Rattle.file.specs.Field.{headerSize, hourlyLength, tagOf, lengthOf, marksIn, tagAllowed, elementLength, lengthDue, headerRight}
+use Rattle.file.specs.Field.{monthIn, messageFields, fieldNamed, rightField, wholeField, fieldOf, cutOff, fieldIn, fieldFrom}
+use Rattle.file.specs.Field.{RightField, Inside}
 use Rattle.file.proofs.ByteLaws.{number-from, number-front}
 
 -- ---- the length that is due

@@ -11,7 +11,8 @@ use Rattle.file.specs.declared.fields.Phase.{Phase}
 use Rattle.file.specs.declared.fields.Found.{Found}
 use Rattle.file.specs.declared.fields.Found.the-variants.{Month, Element, Message, End, More, Broken}
 use Rattle.file.specs.Field.{fieldOf, Inside}
-use Rattle.file.specs.Program.{answered, onMessage, messagesFrom, Heading, settleRecords, collected, openThen, onElement, elementsFrom}
+use Rattle.file.specs.Program.{answered, onMessage, messagesFrom, Heading, settleRecords, collected, openThen, onElement}
+use Rattle.file.specs.Program.{elementsFrom}
 use Rattle.file.proofs.FieldLaws.{inside-of}
 
 -- ---- messages

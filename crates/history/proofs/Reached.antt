@@ -25,7 +25,8 @@ use Rattle.history.proofs.Turns.{placesLeft, events-more, answers-more,
 -- its answer stands behind those before it
 last-answer : (w : World) (fs : List Fields) (f : Fields) (room : ℕ) (rest : List ℕ)
     → getD (answersTo w (eventsFrom w (fs ++ (f ∷ [])) room) ++ rest) (length fs) 0
-    ≡ answer (advanceAll (begin w) (eventsFrom w fs room) .world) (lentWith f (placesLeft w fs room) .fields) (length (lentWith f (placesLeft w fs room) .lent))
+    ≡ answer (advanceAll (begin w) (eventsFrom w fs room) .world) (lentWith f (placesLeft w fs room) .fields)
+    (length (lentWith f (placesLeft w fs room) .lent))
 unfolding begin
 last-answer w fs f room rest =
     rw (events-more w fs f room, answers-more (begin w) (eventsFrom w fs room) (lentWith f (placesLeft w fs room)), append-assoc)
@@ -43,7 +44,8 @@ module _ (w after : World) (fs : List Fields) (count : ℕ) (lent out : List ℤ
   unfolding lentWith
   rounds-add gs f q k z m s e b =
       let v = lentWith f (placesLeft (opened w) gs (roomIn lent)) in
-      let p : eventsOf w fs lent ≡ eventsOf w gs lent ++ (v ∷ []) = ap (λ x. eventsOf w x lent) q ∙ events-more (opened w) gs f (roomIn lent) in
+      let p : eventsOf w fs lent ≡ eventsOf w gs lent ++ (v ∷ []) = ap (λ x. eventsOf w x lent) q
+      ∙ events-more (opened w) gs f (roomIn lent) in
       let n : answer (reached w (eventsOf w gs lent) .world) (v .fields) (length (v .lent)) ≡ 0
       = sym (last-answer (opened w) gs f (roomIn lent) (drop (length fs) table))
       ∙ ap (λ x. getD (answersTo (opened w) (eventsOf w x lent) ++ drop (length fs) table) (length gs) 0) (sym q)
@@ -67,5 +69,6 @@ module _ (w after : World) (fs : List Fields) (count : ℕ) (lent out : List ℤ
 -- For callers: a run whose promise starts from the book that an accepted opening leaves has demand 3, with the world and the records that
 -- it returns.
 pub run-from-opening : (w start after : World) (fs : List Fields) (count : ℕ) (lent out : List ℤ) (table answered : List ℕ)
-    → openingAnswer w ≡ 0 → start ≡ opened w → Followed start after fs count lent out table answered → FromOpening w after fs count lent out answered
+    → openingAnswer w ≡ 0 → start ≡ opened w → Followed start after fs count lent out table answered
+    → FromOpening w after fs count lent out answered
 run-from-opening w start after fs count lent out table answered a e g = from-opened w after fs count lent out table answered a (rw e at g)

@@ -53,20 +53,24 @@ left-is h (f ∷ fs) room =
     let n = length (recordsOf (h .world) f room) in
     let e = left-is (advance h (lentWith f room)) fs (room - n) in
     let k = records-fit (h .world) f room in
-    let l : length (advance h (lentWith f room) .records) ≡ length (h .records) + n = ap length (advance-records h f room) ∙ length-append (h .records) _ in
+    let l : length (advance h (lentWith f room) .records) ≡ length (h .records) + n = ap length (advance-records h f room)
+    ∙ length-append (h .records) _ in
     let s : length (h .records) + room ≡ length (advance h (lentWith f room) .records) + (room - n) = omega arith in
     s ∙ subst (λ (w : World). length (advance h (lentWith f room) .records) + (room - n)
-    ≡ length (advanceAll (advance h (lentWith f room)) (eventsFrom w fs (room - n)) .records) + placesLeft w fs (room - n)) (advance-world h f room) e
+    ≡ length (advanceAll (advance h (lentWith f room)) (eventsFrom w fs (room - n)) .records) + placesLeft w fs (room - n))
+    (advance-world h f room) e
 
 -- ---- one event more
 
-pub events-more : (w : World) (fs : List Fields) (f : Fields) (room : ℕ) → eventsFrom w (fs ++ (f ∷ [])) room ≡ eventsFrom w fs room ++ (lentWith f (placesLeft w fs room) ∷ [])
+pub events-more : (w : World) (fs : List Fields) (f : Fields) (room : ℕ)
+    → eventsFrom w (fs ++ (f ∷ [])) room ≡ eventsFrom w fs room ++ (lentWith f (placesLeft w fs room) ∷ [])
 unfolding eventsFrom placesLeft
 events-more w [] f room = refl
 events-more w (g ∷ fs) f room = ap (λ (vs : List Event). lentWith g room ∷ vs) (events-more (step w g room) fs f _)
 
 pub answers-more : (h : History) (vs : List Event) (v : Event)
-    → answersTo (h .world) (vs ++ (v ∷ [])) ≡ answersTo (h .world) vs ++ (answer (advanceAll h vs .world) (v .fields) (length (v .lent)) ∷ [])
+    → answersTo (h .world) (vs ++ (v ∷ [])) ≡ answersTo (h .world) vs ++
+    (answer (advanceAll h vs .world) (v .fields) (length (v .lent)) ∷ [])
 unfolding answersTo advanceAll advance
 answers-more h [] v = refl
 answers-more h (u ∷ us) v = ap (λ (l : List ℕ). answer (h .world) (u .fields) (length (u .lent)) ∷ l) (answers-more (advance h u) us v)
@@ -81,7 +85,8 @@ length-answers w (f ∷ fs) room u = ap suc (length-answers (step w f room) fs _
 numbers-append : (rs ss : List Record) → numbersOf (rs ++ ss) ≡ numbersOf rs ++ numbersOf ss
 unfolding numbersOf
 numbers-append [] ss = refl
-numbers-append (r ∷ rs) ss = ap (λ (l : List ℤ). recordNumbers r ++ l) (numbers-append rs ss) ∙ sym (append-assoc (recordNumbers r) (numbersOf rs) (numbersOf ss))
+numbers-append (r ∷ rs) ss = ap (λ (l : List ℤ). recordNumbers r ++ l) (numbers-append rs ss)
+    ∙ sym (append-assoc (recordNumbers r) (numbersOf rs) (numbersOf ss))
 
 module _ (rs ss : List Record) (lent : List ℤ) (n : ℕ) (e : n ≡ length rs) where
   front : take (n * recordSize) (numbersAfter rs lent) ≡ numbersOf rs
@@ -100,16 +105,19 @@ module _ (rs ss : List Record) (lent : List ℤ) (n : ℕ) (e : n ≡ length rs)
 
 -- ---- one store behind the answers
 
-answer-put : (given table : List ℕ) (n a : ℕ) → length given ≡ n → n < length table → set (given ++ drop n table) n a ≡ (given ++ (a ∷ [])) ++ drop (n + 1) table
+answer-put : (given table : List ℕ) (n a : ℕ) → length given ≡ n → n < length table
+    → set (given ++ drop n table) n a ≡ (given ++ (a ∷ [])) ++ drop (n + 1) table
 answer-put given table n a e h = rw (drop-cons table n 0 h, set-at given _ (drop (suc n) table) a n e, add-one n, append-assoc)
 
 -- ---- the promise: before the first message, and after one more
 
-pub followed-none : (w : World) (inputs : List ℕ) (lent : List ℤ) (table : List ℕ) → Followed w w (messagesOf inputs 0) 0 lent lent table table
+pub followed-none : (w : World) (inputs : List ℕ) (lent : List ℤ) (table : List ℕ)
+    → Followed w w (messagesOf inputs 0) 0 lent lent table table
 unfolding messagesOf listTo eventsFrom advanceAll begin answersTo
 followed-none w inputs lent table = record { world = refl; list = numbers-none lent; count-is = refl; answers = refl }
 
-module _ (w mid : World) (fs : List Fields) (count : ℕ) (lent list : List ℤ) (table answered : List ℕ) (g : Followed w mid fs count lent list table answered) where
+module _ (w mid : World) (fs : List Fields) (count : ℕ) (lent list : List ℤ) (table answered : List ℕ)
+    (g : Followed w mid fs count lent list table answered) where
   -- records and places left are the places lent
   left-here : roomIn lent ≡ count + placesLeft w fs (roomIn lent)
   unfolding begin
@@ -125,7 +133,8 @@ module _ (w mid : World) (fs : List Fields) (count : ℕ) (lent list : List ℤ)
       ap length (g .list) ∙ length-after (runFrom w fs (roomIn lent) .records) lent (omega arith)
 
   pub answered-long : length fs ≤ length table → length answered ≡ length table
-  answered-long h = ap length (g .answers) ∙ length-append (answersTo w (eventsFrom w fs (roomIn lent))) _ ∙ rw (length-answers w fs (roomIn lent) w, length-drop) (omega arith)
+  answered-long h = ap length (g .answers) ∙ length-append (answersTo w (eventsFrom w fs (roomIn lent))) _
+      ∙ rw (length-answers w fs (roomIn lent) w, length-drop) (omega arith)
 
   room-left : roomIn (drop (count * recordSize) list) ≡ placesLeft w fs (roomIn lent)
   room-left =
@@ -134,7 +143,8 @@ module _ (w mid : World) (fs : List Fields) (count : ℕ) (lent list : List ℤ)
       let d = length-drop (count * recordSize) list in
       omega arith
 
-  module _ (after : World) (f : Fields) (r : Reply) (out : List ℤ) (q : Replied mid after f r (drop (count * recordSize) list) (drop (count * recordSize) out)) where
+  module _ (after : World) (f : Fields) (r : Reply) (out : List ℤ)
+      (q : Replied mid after f r (drop (count * recordSize) list) (drop (count * recordSize) out)) where
     -- the records of one message more fit too
     pub next-fits : count + r .records ≤ length lent / recordSize
     next-fits =
@@ -151,15 +161,18 @@ module _ (w mid : World) (fs : List Fields) (count : ℕ) (lent list : List ℤ)
     room = placesLeft w fs (roomIn lent)
 
     run-more : runFrom w (fs ++ (f ∷ [])) (roomIn lent) ≡ advance h (lentWith f room)
-    run-more = ap (advanceAll (begin w)) (events-more w fs f (roomIn lent)) ∙ advance-snoc (begin w) (eventsFrom w fs (roomIn lent)) (lentWith f room)
+    run-more = ap (advanceAll (begin w)) (events-more w fs f (roomIn lent))
+        ∙ advance-snoc (begin w) (eventsFrom w fs (roomIn lent)) (lentWith f room)
 
     world-more : after ≡ runFrom w (fs ++ (f ∷ [])) (roomIn lent) .world
     world-more = q .world ∙ rw (room-left, g .world) (sym (ap (λ x. x .world) run-more ∙ advance-world h f room))
 
-    written-more : h .records ++ recordsOf mid f (roomIn (drop (count * recordSize) list)) ≡ runFrom w (fs ++ (f ∷ [])) (roomIn lent) .records
+    written-more : h .records ++ recordsOf mid f (roomIn (drop (count * recordSize) list)) ≡ runFrom w (fs ++ (f ∷ []))
+        (roomIn lent) .records
     written-more = rw (room-left, g .world) (sym (ap (λ x. x .records) run-more ∙ advance-records h f room))
 
-    list-more : take (count * recordSize) out ≡ take (count * recordSize) list → out ≡ numbersAfter (runFrom w (fs ++ (f ∷ [])) (roomIn lent) .records) lent
+    list-more : take (count * recordSize) out ≡ take (count * recordSize) list
+        → out ≡ numbersAfter (runFrom w (fs ++ (f ∷ [])) (roomIn lent) .records) lent
     list-more p =
         let rs = h .records in
         let ss = recordsOf mid f (roomIn (drop (count * recordSize) list)) in
@@ -175,14 +188,22 @@ module _ (w mid : World) (fs : List Fields) (count : ℕ) (lent list : List ℤ)
     answer-is = q .number ∙ rw (room-left, g .world, any-long room)
 
     answers-after : length fs < length table
-        → set answered (length fs) (numberOf (r .answer)) ≡ answersTo w (eventsFrom w (fs ++ (f ∷ [])) (roomIn lent)) ++ drop (length (fs ++ (f ∷ []))) table
+        → set answered (length fs) (numberOf (r .answer)) ≡ answersTo w (eventsFrom w (fs ++ (f ∷ [])) (roomIn lent)) ++ drop
+        (length (fs ++ (f ∷ []))) table
     unfolding lentWith begin
     answers-after l =
         let n = length-append fs (f ∷ []) in
-        rw (g .answers, answer-is, n, events-more w fs f (roomIn lent), answers-more (begin w) (eventsFrom w fs (roomIn lent)) (lentWith f room))
+        rw (
+          g .answers,
+          answer-is,
+          n,
+          events-more w fs f (roomIn lent),
+          answers-more (begin w) (eventsFrom w fs (roomIn lent)) (lentWith f room),
+        )
         (answer-put (answersTo w (eventsFrom w fs (roomIn lent))) table (length fs) _ (length-answers w fs (roomIn lent) w) l)
 
-    pub followed-more : take (count * recordSize) out ≡ take (count * recordSize) list → (given : List ℕ) → given ≡ set answered (length fs) (numberOf (r .answer)) → length fs < length table
+    pub followed-more : take (count * recordSize) out ≡ take (count * recordSize) list → (given : List ℕ)
+        → given ≡ set answered (length fs) (numberOf (r .answer)) → length fs < length table
         → Followed w after (fs ++ (f ∷ [])) (count + r .records) lent out table given
     followed-more p given s l =
         record {
@@ -202,13 +223,15 @@ messages-more : (inputs : List ℕ) (i : ℕ) → messagesOf inputs (i + 1) ≡ 
 unfolding messagesOf listTo
 messages-more inputs i = rw (add-one i)
 
-module _ (w mid : World) (inputs : List ℕ) (i count : ℕ) (lent list : List ℤ) (table answered : List ℕ) (g : Followed w mid (messagesOf inputs i) count lent list table answered) where
+module _ (w mid : World) (inputs : List ℕ) (i count : ℕ) (lent list : List ℤ) (table answered : List ℕ)
+    (g : Followed w mid (messagesOf inputs i) count lent list table answered) where
   pub answered-same : i ≤ length table → length answered ≡ length table
   answered-same l = answered-long w mid (messagesOf inputs i) count lent list table answered g (rw (length-messages inputs i) l)
 
   -- one turn of the loop
   pub followed-turn : (after : World) (f : Fields) (r : Reply) (out : List ℤ) (n : ℕ) → i < length table → f ≡ fieldsAt inputs i
-      → Replied mid after f r (drop (count * recordSize) list) (drop (count * recordSize) out) → take (count * recordSize) out ≡ take (count * recordSize) list → n ≡ numberOf (r .answer)
+      → Replied mid after f r (drop (count * recordSize) list) (drop (count * recordSize) out)
+      → take (count * recordSize) out ≡ take (count * recordSize) list → n ≡ numberOf (r .answer)
       → Followed w after (messagesOf inputs (i + 1)) (count + r .records) lent out table (set answered i n)
   followed-turn after f r out n l e q p a =
       let k = length-messages inputs i in

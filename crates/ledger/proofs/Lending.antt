@@ -17,7 +17,8 @@ use base.Logic.{ent, sep, ex}
 use base.Fml.{Lft, GName, Share, Fml, fsep, flft, fdead, fobs, fauth, flent, fobor}
 use prog.Wp.{Heap}
 use ghost.Atoms.{Atoms, sem}
-use types.Kit.{Given, Item, Goal, Soaks, Seq, Step, step, ‵, _⊛_, some, later, _$_, _∵_, !, qed, move, use1, use3, drop, split, pick, fsplit, fjoin, frame, await, updating, now as at-once, show, done}
+use types.Kit.{Given, Item, Goal, Soaks, Seq, Step, step, ‵, _⊛_, some, later, _$_, _∵_, !, qed, move, use1, use3, drop, split, pick}
+use types.Kit.{fsplit, fjoin, frame, await, updating, now as at-once, show, done}
 use types.Tokens.{lft-new, lft-end}
 use types.SemTy.{cells, Arr}
 use denote.RattleType.{RattleType}

@@ -29,7 +29,13 @@ module _ {A : Type 0} (f : ℕ → A) where
   pub front-step : (m n : ℕ) (lent : List A) (v : A) → m < length lent → n ≡ m + 1 → v ≡ f m → set (front f m lent) m v ≡ front f n lent
   unfolding front listTo
   front-step m n lent v l e h =
-      rw (e, add-one m, drop-cons lent m (f m) l, h, set-at (listTo f m) (getD lent m (f m)) (drop (suc m) lent) (f m) m (length-listTo f m))
+      rw (
+        e,
+        add-one m,
+        drop-cons lent m (f m) l,
+        h,
+        set-at (listTo f m) (getD lent m (f m)) (drop (suc m) lent) (f m) m (length-listTo f m),
+      )
       (sym (append-assoc (listTo f m) (f m ∷ []) (drop (suc m) lent)))
 
   pub front-more : (n : ℕ) (lent : List A) → n < length lent → front f (n + 1) lent ≡ set (front f n lent) n (f n)

@@ -19,7 +19,8 @@ use base.Logic.{ent, sep, ex, via, guardI}
 use base.Fml.{GName, Fml, fsep, flft, fat, froom, fdead, flent}
 use prog.Wp.{Heap, Env}
 use ghost.Atoms.{Atoms, sem}
-use types.Kit.{Given, Item, Goal, Soaks, Seq, Step, step, ‵, _⊛_, some, later, _$_, _∵_, !, qed, move, use1, use2, use3, drop, split, pick, fsplit, fjoin, fpick, fpack, feqI, frame, await, updating, now as at-once, show, done}
+use types.Kit.{Given, Item, Goal, Soaks, Seq, Step, step, ‵, _⊛_, some, later, _$_, _∵_, !, qed, move, use1, use2, use3, drop, split, pick}
+use types.Kit.{fsplit, fjoin, fpick, fpack, feqI, frame, await, updating, now as at-once, show, done}
 use types.Run.{Opd}
 use types.Tokens.{lft-new, lft-end, lent-back}
 use types.SemTy.{cells, Arr}

@@ -24,7 +24,8 @@ length-numbers (r ∷ rs) = length-append (recordNumbers r) (numbersOf rs) ∙ r
 numbers-more : (rs : List Record) (r : Record) → numbersOf (rs ++ (r ∷ [])) ≡ numbersOf rs ++ recordNumbers r
 unfolding numbersOf
 numbers-more [] r = append-nil (recordNumbers r)
-numbers-more (x ∷ rs) r = ap (λ (l : List ℤ). recordNumbers x ++ l) (numbers-more rs r) ∙ sym (append-assoc (recordNumbers x) (numbersOf rs) (recordNumbers r))
+numbers-more (x ∷ rs) r = ap (λ (l : List ℤ). recordNumbers x ++ l) (numbers-more rs r)
+    ∙ sym (append-assoc (recordNumbers x) (numbersOf rs) (recordNumbers r))
 
 pub numbers-none : (lent : List ℤ) → lent ≡ numbersAfter [] lent
 unfolding numbersAfter numbersOf
@@ -56,7 +57,8 @@ numbers-put rs r lent n e h =
 
 -- six stores one behind the other
 pub six-stores : (xs : List ℤ) (at : ℕ) (a b c d e f : ℤ)
-    → set (set (set (set (set (set xs at a) (at + 1) b) (at + 2) c) (at + 3) d) (at + 4) e) (at + 5) f ≡ sets xs at (a ∷ b ∷ c ∷ d ∷ e ∷ f ∷ [])
+    → set (set (set (set (set (set xs at a) (at + 1) b) (at + 2) c) (at + 3) d) (at + 4) e) (at + 5) f ≡ sets xs at
+    (a ∷ b ∷ c ∷ d ∷ e ∷ f ∷ [])
 six-stores xs at a b c d e f =
     let p1 : at + 1 ≡ suc at = omega arith in
     let p2 : at + 2 ≡ suc (suc at) = omega arith in

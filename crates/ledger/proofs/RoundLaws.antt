@@ -1,5 +1,5 @@
--- A round by the tables alone: a line is what was sent exactly where its three numbers are, since an amount has one form; the records are the
--- rules', in their order; and what was sent is the lines, three numbers at a time.
+-- A round by the tables alone: a line is what was sent exactly where its three numbers are, since an amount has one form; the records are
+-- the rules', in their order; and what was sent is the lines, three numbers at a time.
 use mathlib.Core.Path.{_≡_, refl, sym, ap, ap₂, _∙_}
 use mathlib.Core.Bool.{Bool, true, false, cond}
 use mathlib.Core.List.{List, [], _∷_, _++_, append-nil}
@@ -23,7 +23,8 @@ use Rattle.rules.specs.World.{World, lineCount, kronerOf, billionthsOf, storedA
 use Rattle.rules.specs.Lent.{Lists, worldIn, lendMoney}
 use Rattle.rules.specs.WellFormed.{linePlaces, lineRight, linesRight}
 use Rattle.rules.specs.Whole.{Whole}
-use Rattle.rules.specs.Effects.{supplierOf, elementOf, difference, unmoved, recordOf, recordFor, recordsTo, records, isRound, written, sentAfter}
+use Rattle.rules.specs.Effects.{supplierOf, elementOf, difference, unmoved, recordOf, recordFor, recordsTo, records, isRound, written}
+use Rattle.rules.specs.Effects.{sentAfter}
 use Rattle.rules.proofs.Tests.{cases, both}
 use Rattle.rules.proofs.Ranges.{within-low, within-high, all-at}
 use Rattle.rules.proofs.Parts.{lengths, formed}
@@ -33,7 +34,8 @@ use Rattle.ledger.specs.Bounds.{LineOf}
 use Rattle.ledger.specs.RecordNumbers.{recordNumbers, numbersAfter}
 use Rattle.ledger.proofs.RecordNumbers.{length-after, numbers-put}
 use Rattle.ledger.proofs.Bounds.{line-is, stored-within, stored-is}
-use Rattle.ledger.specs.Moved.{movedBy, unmovedAt, linesIn, lineRecord, lineRecords, movedCount, lineCopied, Comparable, Settled, Sendable, LineSent}
+use Rattle.ledger.specs.Moved.{movedBy, unmovedAt, linesIn, lineRecord, lineRecords, movedCount, lineCopied, Comparable, Settled}
+use Rattle.ledger.specs.Moved.{Sendable, LineSent}
 
 -- ---- tests
 
@@ -72,9 +74,11 @@ module _ (ls ts : List ℤ) (at : ℕ) where
 
   -- and back, of lines in their one form
   module _ (h : Comparable ls ts at) (u : unmovedAt ls ts at ≡ true) where
-    both-same : (storedAt ls Measure.quantity at ≡ storedAt ts Measure.quantity at) × (storedAt ls Measure.amount at ≡ storedAt ts Measure.amount at)
+    both-same : (storedAt ls Measure.quantity at ≡ storedAt ts Measure.quantity at)
+        × (storedAt ls Measure.amount at ≡ storedAt ts Measure.amount at)
     unfolding unmovedAt movedBy
-    both-same = let p = both (eqb (natAbs (movedBy ls ts Measure.quantity at)) 0) _ u in (no-difference _ _ (p .0), no-difference _ _ (p .1))
+    both-same = let p = both (eqb (natAbs (movedBy ls ts Measure.quantity at)) 0) _ u in
+        (no-difference _ _ (p .0), no-difference _ _ (p .1))
 
     pub quantity-same : getD ls at (pos 0) ≡ getD ts at (pos 0)
     unfolding storedAt
@@ -87,13 +91,15 @@ module _ (ls ts : List ℤ) (at : ℕ) where
     billionths-same =
         let l = pos-natAbs (getD ls (at + 2) (pos 0)) (stored-within ls at (h .line-right) .billionths .upwards) in
         let t = pos-natAbs (getD ts (at + 2) (pos 0)) (stored-within ts at (h .total-right) .billionths .upwards) in
-        sym l ∙ ap pos (stored-is ls at (h .line-right) .billionths ∙ ap billionthsOf (both-same .1) ∙ sym (stored-is ts at (h .total-right) .billionths)) ∙ t
+        sym l ∙ ap pos (stored-is ls at (h .line-right) .billionths ∙ ap billionthsOf (both-same .1)
+        ∙ sym (stored-is ts at (h .total-right) .billionths)) ∙ t
 
     -- copying such a line changes nothing
     pub copied-same : ts ≡ lineCopied ls ts at
     unfolding lineCopied
     copied-same =
-        rw (quantity-same, kroner-same, billionths-same, set-getD ts at (pos 0), set-getD ts (at + 1) (pos 0)) (sym (set-getD ts (at + 2) (pos 0)))
+        rw (quantity-same, kroner-same, billionths-same, set-getD ts at (pos 0), set-getD ts (at + 1) (pos 0))
+        (sym (set-getD ts (at + 2) (pos 0)))
 
 -- each line of a book can be compared
 pub sendable : (b : Book) (ls ts : List ℤ) → Settled b ls ts → (k : ℕ) → k < linesIn b → Sendable b ls ts k
@@ -162,7 +168,8 @@ module _ (b : Book) (ls ts : List ℤ) where
   unfolding lineRecords
   records-none = refl
 
-  pub records-more : (k : ℕ) → lineRecords b ls ts (k + 1) ≡ lineRecords b ls ts k ++ cond (unmovedAt ls ts (k * lineSize)) [] (lineRecord b ls ts k ∷ [])
+  pub records-more : (k : ℕ) → lineRecords b ls ts (k + 1) ≡ lineRecords b ls ts k ++ cond (unmovedAt ls ts (k * lineSize)) []
+      (lineRecord b ls ts k ∷ [])
   unfolding lineRecords
   records-more k = rw (add-one k)
 
@@ -318,7 +325,8 @@ module _ (b : Book) (ls ts lent : List ℤ) (h : Settled b ls ts) (room : movedC
     pub turn-room : (n : ℕ) → n ≡ movedCount ls ts k → unmovedAt ls (paste ts 0 ls (k * lineSize)) (k * lineSize) ≡ false
         → n * recordSize + 5 < length (numbersAfter (lineRecords b ls ts k) lent)
     turn-room n e u =
-        rw (list-long k (omega arith)) (list-room ls ts (linesIn b) k n (length lent) l e room (sym (unmoved-past ls ts same-long k inside) ∙ u))
+        rw (list-long k (omega arith)) (list-room ls ts (linesIn b) k n (length lent) l e room
+        (sym (unmoved-past ls ts same-long k inside) ∙ u))
 
     pub turn-done : (n next : ℕ) (ts′ out out′ : List ℤ) → n ≡ movedCount ls ts k → out ≡ numbersAfter (lineRecords b ls ts k) lent
         → LineSent b ls (paste ts 0 ls (k * lineSize)) ts′ k n next out out′

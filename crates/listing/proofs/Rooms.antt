@@ -18,7 +18,8 @@ use Rattle.rules.specs.Basics.{listTo}
 use Rattle.rules.specs.Sizes.{mostLines, recordSize}
 use Rattle.rules.specs.World.{World, lineCount}
 use Rattle.rules.specs.Messages.{understood}
-use Rattle.rules.specs.Effects.{isRound, recordFor, recordsTo, records, written, supplierOf, elementOf, unmoved, question18, answerTo, askBook, answer, accepted, step, recordsOf, listAfter}
+use Rattle.rules.specs.Effects.{isRound, recordFor, recordsTo, records, written, supplierOf, elementOf, unmoved, question18, answerTo}
+use Rattle.rules.specs.Effects.{askBook, answer, accepted, step, recordsOf, listAfter}
 use Rattle.rules.specs.Whole.{Whole}
 use Rattle.rules.proofs.Tests.{cases, eqb-ne}
 use Rattle.rules.proofs.Parts.{few-lines, lengths}

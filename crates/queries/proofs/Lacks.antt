@@ -44,7 +44,8 @@ module _ (f : ℕ → Bool) where
   any-true (suc n) i h t = cases (f n)
       (λ k. rw k)
       (λ k. rw k (cases (eqb i n)
-      (λ e. let z : f n ≡ true = rw (eqb-true i n e) at t in let y : _≡_ {A = Bool} true false = sym z ∙ k in absurd (let x : _≡_ {A = ℕ} 0 1 = cc in omega arith))
+      (λ e. let z : f n ≡ true = rw (eqb-true i n e) at t in let y : _≡_ {A = Bool} true false = sym z ∙ k in
+      absurd (let x : _≡_ {A = ℕ} 0 1 = cc in omega arith))
       (λ e. any-true n i (omega (arith, tests)) t)))
 
 -- ---- a day

@@ -24,7 +24,8 @@ module _ (o : Lists) (links holders states readings blocks : List ℕ) (lines se
 -- questions 2 and 3 give every table its exact length
 pub opened-cleared : (year month points suppliers elements : ℕ) (o : Lists)
     → openingAnswer (worldIn (freshBook year month points suppliers elements) o) ≡ 0
-    → worldIn (freshBook year month points suppliers elements) (cleared o) ≡ opened (worldIn (freshBook year month points suppliers elements) o)
+    → worldIn (freshBook year month points suppliers elements) (cleared o) ≡ opened
+    (worldIn (freshBook year month points suppliers elements) o)
 unfolding opened tableOf linePlaces lineCount
 opened-cleared year month points suppliers elements o h =
     let w = worldIn (freshBook year month points suppliers elements) o in

@@ -119,7 +119,8 @@ module _ (b : Book) (o : Lists) (g : TableRows b (o .links) (o .holders) (o .sta
         rw (h, state-fits p d v, n, l, ← s, one-more) k
 
     -- of the messages that the code does not look at, a stop alone writes a row
-    other-count : (x : Body) → RowFits (take (b .periods) (o .links)) x → OneOf (1 ∷ 5 ∷ 6 ∷ 7 ∷ []) (tagOf the-type x) → true ≡ fits-after x
+    other-count : (x : Body) → RowFits (take (b .periods) (o .links)) x → OneOf (1 ∷ 5 ∷ 6 ∷ 7 ∷ []) (tagOf the-type x)
+        → true ≡ fits-after x
     other-count (Link p e d q) r h = absurd (miss (1 ∷ 5 ∷ 6 ∷ 7 ∷ []) 0 tt h)
     other-count (Stop p e d) r h = stop-count p e d
     other-count (Quantity p e d q) r h = absurd (miss (1 ∷ 5 ∷ 6 ∷ 7 ∷ []) 2 tt h)

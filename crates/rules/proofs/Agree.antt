@@ -13,7 +13,8 @@ use native.Mathlib.Nat.{mul-le-mul-right}
 use Rattle.rules.specs.Sizes.{dayRoom, elementRoom, endOfDays, holderSize, hourPlaces, quantityRoom, stateSize}
 use Rattle.rules.specs.declared.Body.{Body}
 use Rattle.rules.specs.declared.Body.the-variants.{Link, Stop, Quantity, Holder, State, Reading, Block, Round}
-use Rattle.rules.specs.Rows.{packPeriod, ofPair, covers, quantityOn, startsOn, nextStart, insertRow, stopRows, splitRows, packValue, recordedOn, recordRow}
+use Rattle.rules.specs.Rows.{packPeriod, ofPair, covers, quantityOn, startsOn, nextStart, insertRow, stopRows, splitRows, packValue}
+use Rattle.rules.specs.Rows.{recordedOn, recordRow}
 use Rattle.rules.specs.World.{Opening, Tables, rowsOf, kindOf, monthFirst, monthDays, readingAt, energyOf}
 use Rattle.rules.specs.WellFormed.{readingCount}
 use Rattle.rules.specs.Questions.{pointOf}
@@ -26,7 +27,8 @@ use Rattle.rules.proofs.Values.{recorded-pack}
 use Rattle.rules.specs.Order.{Run, linkedIn}
 use Rattle.rules.proofs.Runs.{covered}
 use Rattle.rules.proofs.Reach.{goes-on, no-start, next-after}
-use Rattle.rules.proofs.Changes.{quantity-insert, starts-insert, clear, quantity-stop, starts-stop, quantity-stop-other, starts-stop-other, quantity-split, starts-split, quantity-split-other, starts-split-other}
+use Rattle.rules.proofs.Changes.{quantity-insert, starts-insert, clear, quantity-stop, starts-stop, quantity-stop-other}
+use Rattle.rules.proofs.Changes.{starts-stop-other, quantity-split, starts-split, quantity-split-other, starts-split-other}
 use Rattle.rules.proofs.PeriodsRight.{packed}
 use Rattle.rules.proofs.Parts.{rows-table, links-run}
 use Rattle.rules.specs.Ready.{Ready}
@@ -46,7 +48,8 @@ here-is : (p e p′ e′ : ℕ) → here p e p′ e′ ≡ (eqb p p′ && eqb e 
 unfolding here
 here-is p e p′ e′ = rw (eqb-comm p p′, eqb-comm e e′)
 
-at-pair : (p e p′ e′ : ℕ) (P : ℕ → ℕ → Bool → Type 0) → P p e true → ((eqb p p′ && eqb e e′) ≡ false → P p′ e′ false) → P p′ e′ (here p e p′ e′)
+at-pair : (p e p′ e′ : ℕ) (P : ℕ → ℕ → Bool → Type 0) → P p e true → ((eqb p p′ && eqb e e′) ≡ false → P p′ e′ false)
+    → P p′ e′ (here p e p′ e′)
 at-pair p e p′ e′ P same other = rw (here-is p e p′ e′) (cases (eqb p p′ && eqb e e′)
     (λ c. let m = both (eqb p p′) (eqb e e′) c in rw c (rw (eqb-true p p′ (m .0), eqb-true e e′ (m .1)) at same))
     (λ c. rw c (other c)))
@@ -83,7 +86,8 @@ module _ (op : Opening) (t : Tables) (s : Fresh) (ag : Agree op t s) where
       (λ p′ e′ d n. starts-stop-other p e p′ e′ he n a d ha (rowsOf (t .links)))
 
   -- the days that go on are the same by the tables
-  same-run : (p e a d : ℕ) → goesOn (s .start p e) (s .quantity p e) a d ≡ goesOn (startsOn (rowsOf (t .links)) p e) (quantityOn (rowsOf (t .links)) p e) a d
+  same-run : (p e a d : ℕ) → goesOn (s .start p e) (s .quantity p e) a d ≡ goesOn (startsOn (rowsOf (t .links)) p e)
+      (quantityOn (rowsOf (t .links)) p e) a d
   unfolding goesOn
   same-run p e a d = all-cong _ _ (d - a) (λ i k. rw (ag .start p e (a + 1 + i), ag .quantity p e (a + 1 + i)))
 
@@ -106,7 +110,8 @@ module _ (op : Opening) (t : Tables) (s : Fresh) (ag : Agree op t s) where
       (λ p′ e′ d n. starts-split-other p e p′ e′ he n a d ha (rowsOf (t .links)) q hq)
 
 -- where a link ends
-link-end : (op : Opening) (t : Tables) (p e a : ℕ) → linkEnd op t p e a ≡ cond (eqb (kindOf op e) 2) (a + 1) (nextStart (rowsOf (t .links)) p e a)
+link-end : (op : Opening) (t : Tables) (p e a : ℕ)
+    → linkEnd op t p e a ≡ cond (eqb (kindOf op e) 2) (a + 1) (nextStart (rowsOf (t .links)) p e a)
 unfolding linkEnd
 link-end op t p e a = refl
 
@@ -217,7 +222,8 @@ read-set rs points days first len p a h n p′ d h′ hp h1 h2 hh k1 k2 hh′ =
     false≢true (sym t ∙ rw (u, v, g)))))
 
 module _ (op : Opening) (t : Tables) (s : Fresh) (ag : Agree op t s) where
-  agree-reading : length (t .readings) ≡ readingCount op → (p a h n : ℕ) → p < op .points → h < hourPlaces → monthFirst op ≤ a → a < monthFirst op + monthDays op
+  agree-reading : length (t .readings) ≡ readingCount op → (p a h n : ℕ) → p < op .points → h < hourPlaces → monthFirst op ≤ a
+      → a < monthFirst op + monthDays op
       → Agree op (told op t (Reading p a h n)) (heard op s (Reading p a h n))
   unfolding told heard withReadings energyOf readingAt readingCount
   agree-reading len p a h n hp hh h1 h2 = record {
@@ -232,7 +238,13 @@ module _ (op : Opening) (t : Tables) (s : Fresh) (ag : Agree op t s) where
 
   agree-block : (p b : ℕ) → Agree op (told op t (Block p b)) (heard op s (Block p b))
   unfolding told heard withBlocks
-  agree-block p b = record { holder = ag .holder; state = ag .state; quantity = ag .quantity; start = ag .start; reading = unfold energyOf in ag .reading }
+  agree-block p b = record {
+    holder = ag .holder;
+    state = ag .state;
+    quantity = ag .quantity;
+    start = ag .start;
+    reading = unfold energyOf in ag .reading;
+  }
 
   agree-round : Agree op (told op t Round) (heard op s Round)
   unfolding told heard

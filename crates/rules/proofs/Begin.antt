@@ -14,7 +14,9 @@ use Rattle.rules.specs.Sizes.{lineSize, mostEnergy}
 use Rattle.rules.specs.Basics.{within, chained, allIn, latest}
 use Rattle.rules.specs.Lines.{Measure, Terms, line}
 use Rattle.rules.specs.World.{Opening, World, tableOf, lineCount, energyOf, amountOf, storedAt, stored}
-use Rattle.rules.specs.WellFormed.{withinLimits, rowsFit, readingCount, linePlaces, openingSized, tablesSized, linesSized, lineLimit, lineRight, linesRight, linksRight, holdersRight, statesRight, question2, question3, question4, question5}
+use Rattle.rules.specs.WellFormed.{withinLimits, rowsFit, readingCount, linePlaces, openingSized, tablesSized, linesSized, lineLimit}
+use Rattle.rules.specs.WellFormed.{lineRight, linesRight, linksRight, holdersRight, statesRight, question2, question3, question4}
+use Rattle.rules.specs.WellFormed.{question5}
 use Rattle.rules.specs.Opening.{openingAnswer, opened}
 use Rattle.rules.specs.Fresh.{nothing, freshFacts}
 use Rattle.rules.proofs.Tests.{both}
@@ -33,7 +35,12 @@ stored-zero n Measure.amount i = rw (getD-same n (i + 1) (pos 0), getD-same n (i
 
 lines-zero : (o : Opening) (n : ℕ) → linesRight o (replicate n (pos 0)) ≡ true
 unfolding linesRight lineRight lineLimit
-lines-zero o n = all-true _ (lineCount o) (λ k l. rw (stored-zero n Measure.quantity (k * lineSize), stored-zero n Measure.amount (k * lineSize), getD-same n (k * lineSize + 2) (pos 0)))
+lines-zero o n = all-true _ (lineCount o)
+    (λ k l. rw (
+      stored-zero n Measure.quantity (k * lineSize),
+      stored-zero n Measure.amount (k * lineSize),
+      getD-same n (k * lineSize + 2) (pos 0),
+    ))
 
 sized-zero : (o : Opening) → linesSized o (replicate (linePlaces o) (pos 0)) ≡ true
 unfolding linesSized
@@ -56,7 +63,8 @@ passed w e =
 module _ (w : World) where
   begin-tables : tablesSized (w .opening) (opened w .position .tables) ≡ true
   unfolding tablesSized opened tableOf
-  begin-tables = rw (length-replicate, eq-eqb (readingCount (w .opening)) (readingCount (w .opening)) refl) (rw length-replicate (eq-eqb (w .opening .points) (w .opening .points) refl))
+  begin-tables = rw (length-replicate, eq-eqb (readingCount (w .opening)) (readingCount (w .opening)) refl)
+      (rw length-replicate (eq-eqb (w .opening .points) (w .opening .points) refl))
 
   pub begin-whole : Passed w → Whole (opened w)
   unfolding question2 question3 question4 question5 opened

@@ -6,10 +6,13 @@ use mathlib.Core.List.{List, [], _∷_}
 use lib.Dec.{leb, ltb, eqb}
 use native.Mathlib.Omega.{arith}
 use Rattle.rules.specs.Sizes.{dayRoom, elementRoom, quantityRoom}
-use Rattle.rules.specs.Rows.{periodFirst, periodEnd, periodQuantity, ofPair, covers, quantityOn, startsOn, nextStart, insertRow, stopRows, splitRows}
+use Rattle.rules.specs.Rows.{periodFirst, periodEnd, periodQuantity, ofPair, covers, quantityOn, startsOn, nextStart, insertRow}
+use Rattle.rules.specs.Rows.{stopRows, splitRows}
 use Rattle.rules.proofs.Tests.{tests, cases, neither, cond-same, eqb-comm}
-use Rattle.rules.proofs.Words.{first-lt, end-lt, quantity-lt, first-pack, end-pack, quantity-pack, pair-pack, pair-pack-same, pair-is, pair-other, covers-is}
-use Rattle.rules.proofs.Clauses.{quantity-nil, quantity-cons, starts-nil, starts-cons, next-cons, insert-nil, insert-cons, stop-nil, stop-cons, split-nil, split-cons}
+use Rattle.rules.proofs.Words.{first-lt, end-lt, quantity-lt, first-pack, end-pack, quantity-pack, pair-pack, pair-pack-same}
+use Rattle.rules.proofs.Words.{pair-is, pair-other, covers-is}
+use Rattle.rules.proofs.Clauses.{quantity-nil, quantity-cons, starts-nil, starts-cons, next-cons, insert-nil, insert-cons, stop-nil}
+use Rattle.rules.proofs.Clauses.{stop-cons, split-nil, split-cons}
 use Rattle.rules.specs.Order.{Run, done, next, linkedIn}
 use Rattle.rules.proofs.Runs.{linked-nil, linked-cons, endIn, end-cons, covered, ends-by}
 
@@ -125,11 +128,13 @@ module _ (p e a d : ℕ) (he : e < elementRoom) (ha : a < dayRoom) where
       let g = end-pack p e (periodFirst w) a (periodQuantity w) he (first-lt w) ha (quantity-lt w) in
       let h = quantity-pack p e (periodFirst w) a (periodQuantity w) he (first-lt w) ha (quantity-lt w) in
       cases (leb a d)
-      (λ k. let z : ltb d a ≡ false = omega (arith, tests) in simp (o, t, u, k, quantity-cons, covers-is, x, f, g, h, z, and-false, quantity-stop ws))
+      (λ k. let z : ltb d a ≡ false = omega (arith, tests) in
+      simp (o, t, u, k, quantity-cons, covers-is, x, f, g, h, z, and-false, quantity-stop ws))
       (λ k. let z : ltb d a ≡ true = omega (arith, tests) in let y : ltb d (periodEnd w) ≡ true = omega (arith, tests) in
       simp (o, t, u, k, quantity-cons, covers-is, x, f, g, h, z, y, quantity-stop ws)))
       (λ u. cases (leb a d)
-      (λ k. let z : ltb d (periodEnd w) ≡ false = omega (arith, tests) in simp (o, t, u, k, z, quantity-cons, covers-is, and-false, quantity-stop ws))
+      (λ k. let z : ltb d (periodEnd w) ≡ false = omega (arith, tests) in
+      simp (o, t, u, k, z, quantity-cons, covers-is, and-false, quantity-stop ws))
       (λ k. simp (o, t, u, k, quantity-cons, covers-is, quantity-stop ws)))))
       (λ o. simp (o, quantity-cons, covers-is, quantity-stop ws)))
 

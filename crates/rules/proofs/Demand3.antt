@@ -19,10 +19,12 @@ use Rattle.rules.specs.declared.Message.{Message}
 use Rattle.rules.specs.declared.Record.{Record}
 use Rattle.rules.specs.Lines.{Measure, owedByHolder, line}
 use Rattle.rules.specs.World.{Opening, Tables, World, rowsOf, monthFirst, monthDays, termsOf, factsOf, stored, InBook}
-use Rattle.rules.specs.WellFormed.{withinLimits, rowsFit, lineLimit, elementRight, valueRight, earlier, linesRight, holdersRight, tablesRight, question2, question4, question5}
+use Rattle.rules.specs.WellFormed.{withinLimits, rowsFit, lineLimit, elementRight, valueRight, earlier, linesRight, holdersRight}
+use Rattle.rules.specs.WellFormed.{tablesRight, question2, question4, question5}
 use Rattle.rules.specs.Messages.{understood, bodyIn}
 use Rattle.rules.specs.Questions.{pointOf}
-use Rattle.rules.specs.Effects.{told, movedLine, movedLines, isRound, sentAfter, records, written, writtenBy, recordsOf, tablesAfter, linesAfter, posted, question17, answer, accepted, stepBy, step}
+use Rattle.rules.specs.Effects.{told, movedLine, movedLines, isRound, sentAfter, records, written, writtenBy, recordsOf, tablesAfter}
+use Rattle.rules.specs.Effects.{linesAfter, posted, question17, answer, accepted, stepBy, step}
 use Rattle.rules.specs.Opening.{openingAnswer, opened}
 use Rattle.rules.specs.Queries.{lineQuery, lineNamed, named}
 use Rattle.rules.specs.Fresh.{Fresh, heard, heardBody, hear, freshFacts}
@@ -79,10 +81,12 @@ record Inv (o : Opening) (h : History) : Type 0 where
   whole : Whole (h .world)
   agree : Agree (h .world .opening) (h .world .position .tables) (h .fresh)
   lines : linesOfRules (h .world)
-  sent : (m : Measure) (s e : ℕ) → InBook (h .world .opening) s e → total m s e (h .records) ≡ stored (h .world .opening) (h .world .sent .totals) m s e
+  sent : (m : Measure) (s e : ℕ) → InBook (h .world .opening) s e
+      → total m s e (h .records) ≡ stored (h .world .opening) (h .world .sent .totals) m s e
 
 -- the rules' line from the tables is fresh settlement's
-line-fresh : (o : Opening) (t : Tables) (f : Fresh) → Agree o t f → (m : Measure) (s e : ℕ) → line (termsOf o) (factsOf o t) m s e ≡ line (termsOf o) (freshFacts f) m s e
+line-fresh : (o : Opening) (t : Tables) (f : Fresh) → Agree o t f → (m : Measure) (s e : ℕ)
+    → line (termsOf o) (factsOf o t) m s e ≡ line (termsOf o) (freshFacts f) m s e
 unfolding termsOf
 line-fresh o t f a m s e = line-cong (termsOf o) (factsOf o t) (freshFacts f) m s e (λ p k. same-agree o t f a p k)
 
@@ -92,16 +96,20 @@ inv-begin w e = record {
   opening = refl;
   whole = begin-whole w (passed w e);
   agree = begin-agree w;
-  lines = λ m s x b. begin-line w m s x ∙ sym (line-fresh (w .opening) (opened w .position .tables) _ (begin-agree w) m s x ∙ line-nothing (termsOf (w .opening)) m s x (b .someone));
+  lines = λ m s x b. begin-line w m s x ∙ sym
+      (line-fresh (w .opening) (opened w .position .tables) _ (begin-agree w) m s x
+      ∙ line-nothing (termsOf (w .opening)) m s x (b .someone));
   sent = λ m s x b. sym (begin-sent w m s x);
 }
 
 -- a line after a message is what the rules give then
 line-after : (w : World) (b : Body) → linesOfRules w → (m : Measure) (s e : ℕ) → InBook (w .opening) s e
-    → movedLine (w .opening) (w .position .lines) (w .position .tables) (tablesAfter w b) m s e ≡ line (termsOf (w .opening)) (factsOf (w .opening) (tablesAfter w b)) m s e
+    → movedLine (w .opening) (w .position .lines) (w .position .tables) (tablesAfter w b) m s e ≡ line (termsOf (w .opening))
+    (factsOf (w .opening) (tablesAfter w b)) m s e
 unfolding movedLine
 line-after w b h m s e k =
-    rw (h m s e k) (back-again (line (termsOf (w .opening)) (factsOf (w .opening) (w .position .tables)) m s e) (line (termsOf (w .opening)) (factsOf (w .opening) (tablesAfter w b)) m s e))
+    rw (h m s e k) (back-again (line (termsOf (w .opening)) (factsOf (w .opening) (w .position .tables)) m s e)
+    (line (termsOf (w .opening)) (factsOf (w .opening) (tablesAfter w b)) m s e))
 
 lines-posted : (w : World) (b : Body) → linesOfRules w → linesOfRules (posted w b)
 unfolding posted linesAfter movedLines
@@ -115,7 +123,8 @@ sent-posted w b xs m s e k h = cases (isRound b)
     (λ c. rw c (total-round w xs m s e k h))
     (λ c. rw (c, append-nil xs) h)
 
-inv-after : (o : Opening) (h : History) → Inv o h → (v : Event) (b : Body) → accepted (h .world) (v .fields) (length (v .lent)) ≡ some b → Inv o (after h (some b))
+inv-after : (o : Opening) (h : History) → Inv o h → (v : Event) (b : Body) → accepted (h .world) (v .fields) (length (v .lent)) ≡ some b
+    → Inv o (after h (some b))
 unfolding after stepBy heardBody writtenBy posted tablesAfter
 inv-after o h i v b e =
     let k = taken (h .world) (v .fields) (length (v .lent)) b e in
@@ -178,8 +187,10 @@ module _ (h : History) (o : Opening) (i : Inv o h) where
 
   query-fresh : (s e : ℕ) → InBook (h .world .opening) s e
       → lineQuery (h .world) s e
-      ≡ lineNamed (line (termsOf (h .world .opening)) (freshFacts (h .fresh)) Measure.quantity s e) (line (termsOf (h .world .opening)) (freshFacts (h .fresh)) Measure.amount s e)
-  query-fresh s e b = query-stored (h .world) (i .whole) s e b ∙ ap₂ lineNamed (stored-fresh Measure.quantity s e b) (stored-fresh Measure.amount s e b)
+      ≡ lineNamed (line (termsOf (h .world .opening)) (freshFacts (h .fresh)) Measure.quantity s e)
+      (line (termsOf (h .world .opening)) (freshFacts (h .fresh)) Measure.amount s e)
+  query-fresh s e b = query-stored (h .world) (i .whole) s e b
+      ∙ ap₂ lineNamed (stored-fresh Measure.quantity s e b) (stored-fresh Measure.amount s e b)
 
   named-fresh : (m : Measure) (s e : ℕ) → InBook (h .world .opening) s e
       → named m (lineQuery (h .world) s e) ≡ line (termsOf (h .world .opening)) (freshFacts (h .fresh)) m s e
@@ -187,10 +198,12 @@ module _ (h : History) (o : Opening) (i : Inv o h) where
 
   totals-of : (m : Measure) (e : ℕ) → e < h .world .opening .elements
       → sumTo (λ s. named m (lineQuery (h .world) (suc s) e)) (h .world .opening .suppliers)
-      ≡ sumTo (λ p. sumTo (λ d. owedByHolder (termsOf (h .world .opening)) (freshFacts (h .fresh)) m p e (monthFirst (h .world .opening) + d)) (monthDays (h .world .opening))) (h .world .opening .points)
+      ≡ sumTo (λ p. sumTo (λ d. owedByHolder (termsOf (h .world .opening)) (freshFacts (h .fresh)) m p e
+      (monthFirst (h .world .opening) + d)) (monthDays (h .world .opening))) (h .world .opening .points)
   unfolding termsOf
   totals-of m e k =
-      sum-cong _ _ (h .world .opening .suppliers) (λ s l. named-fresh m (suc s) e (record { someone = omega arith; supplier = l; element = k }))
+      sum-cong _ _ (h .world .opening .suppliers)
+      (λ s l. named-fresh m (suc s) e (record { someone = omega arith; supplier = l; element = k }))
       ∙ lines-total (termsOf (h .world .opening)) (freshFacts (h .fresh)) m e (h .world .opening .suppliers)
       (λ p d a b. holder-high (h .world .opening) (h .world .position .tables) (h .fresh) (i .agree) (tables-of (h .world) (i .whole)) p _)
 
@@ -198,14 +211,17 @@ module _ (h : History) (o : Opening) (i : Inv o h) where
   small-of m s e b =
       rw (named-stored (h .world) (i .whole) s e b m, i .lines m s e b)
       (line-small (termsOf (h .world .opening)) (factsOf (h .world .opening) (h .world .position .tables)) e
-      (bounded (h .world .opening) e (element-of (h .world) (i .whole) e (b .element)) (limits-of (h .world) (i .whole)) (h .world .position .tables) (tables-of (h .world) (i .whole))) m s)
+      (bounded (h .world .opening) e (element-of (h .world) (i .whole) e (b .element)) (limits-of (h .world) (i .whole))
+      (h .world .position .tables) (tables-of (h .world) (i .whole))) m s)
 
   -- lines never leave their bounds, so 17 is said for the rows' sake
-  lines-fit : (b : Body) → Ready (h .world .opening) (h .world .position .tables) b → linesRight (h .world .opening) (linesAfter (h .world) b) ≡ true
+  lines-fit : (b : Body) → Ready (h .world .opening) (h .world .position .tables) b
+      → linesRight (h .world .opening) (linesAfter (h .world) b) ≡ true
   unfolding linesAfter movedLines
   lines-fit b r = lines-right (h .world .opening) _ (λ m s e k. rw (line-after (h .world) b (i .lines) m s e k)
       (le-trans (line-small (termsOf (h .world .opening)) (factsOf (h .world .opening) (tablesAfter (h .world) b)) e
-      (bounded (h .world .opening) e (element-of (h .world) (i .whole) e (k .element)) (limits-of (h .world) (i .whole)) (tablesAfter (h .world) b)
+      (bounded (h .world .opening) e (element-of (h .world) (i .whole) e (k .element)) (limits-of (h .world) (i .whole))
+      (tablesAfter (h .world) b)
       (unfold tablesAfter in told-right (h .world .opening) (h .world .position .tables) b r)) m s) (inside m)))
 
   full-of : (v : Event) (b : Message) → understood (h .world .opening .suppliers) (v .fields) ≡ some b
@@ -225,7 +241,8 @@ module _ (h : History) (o : Opening) (i : Inv o h) (v : Event) (s e : ℕ) (b : 
     (before : Holds (h .world .opening) (h .fresh) s (v .fields .point) → ⊥) where
   local-line : (x : Body) → accepted (h .world) (v .fields) (length (v .lent)) ≡ some x
       → (Holds (h .world .opening) (heard (h .world .opening) (h .fresh) x) s (v .fields .point) → ⊥)
-      → (m : Measure) → line (termsOf (h .world .opening)) (freshFacts (heard (h .world .opening) (h .fresh) x)) m s e ≡ line (termsOf (h .world .opening)) (freshFacts (h .fresh)) m s e
+      → (m : Measure) → line (termsOf (h .world .opening)) (freshFacts (heard (h .world .opening) (h .fresh) x)) m s e ≡ line
+      (termsOf (h .world .opening)) (freshFacts (h .fresh)) m s e
   unfolding termsOf
   local-line x c z m =
       let t = termsOf (h .world .opening) in
@@ -247,25 +264,29 @@ module _ (h : History) (o : Opening) (i : Inv o h) (v : Event) (s e : ℕ) (b : 
       ∙ ap₂ lineNamed (local-line x c z Measure.quantity) (local-line x c z Measure.amount)
       ∙ sym (query-fresh h o i s e b)
 
-  local-of : (Holds (h .world .opening) (advance h v .fresh) s (v .fields .point) → ⊥) → lineQuery (advance h v .world) s e ≡ lineQuery (h .world) s e
+  local-of : (Holds (h .world .opening) (advance h v .fresh) s (v .fields .point) → ⊥)
+      → lineQuery (advance h v .world) s e ≡ lineQuery (h .world) s e
   local-of z = rw (advance-is h v) (local-after (accepted (h .world) (v .fields) (length (v .lent))) refl (rw (advance-is h v) at z))
 
 -- an accepted message of kind 8 is a round
-round-accepted : (w : World) (v : Event) → v .fields .kind ≡ 8 → answer w (v .fields) (length (v .lent)) ≡ 0 → accepted w (v .fields) (length (v .lent)) ≡ some Round
+round-accepted : (w : World) (v : Event) → v .fields .kind ≡ 8 → answer w (v .fields) (length (v .lent)) ≡ 0
+    → accepted w (v .fields) (length (v .lent)) ≡ some Round
 unfolding accepted bodyIn
 round-accepted w v k a =
     let c = behind w (v .fields) (length (v .lent)) 0 (λ n x y z. omega arith) a in
     rw (a, c .is, round-body (w .opening .suppliers) (v .fields) k (c .message) (c .is))
 
 -- after an accepted round the records add up to the line
-round-total : (h : History) (o : Opening) → Inv o h → Inv o (after h (some Round)) → (m : Measure) (s e : ℕ) → InBook (h .world .opening) s e
+round-total : (h : History) (o : Opening) → Inv o h → Inv o (after h (some Round)) → (m : Measure) (s e : ℕ)
+    → InBook (h .world .opening) s e
     → total m s e (after h (some Round) .records) ≡ named m (lineQuery (after h (some Round) .world) s e)
 unfolding after stepBy posted sentAfter isRound tablesAfter told
 round-total h o i j m s e b =
     j .sent m s e b ∙ i .lines m s e b ∙ sym (j .lines m s e b) ∙ sym (named-stored (after h (some Round) .world) (j .whole) s e b m)
 
 rounds-of : (h : History) (o : Opening) → Inv o h → (v : Event) → accepted (h .world) (v .fields) (length (v .lent)) ≡ some Round
-    → (m : Measure) (s e : ℕ) → InBook (h .world .opening) s e → total m s e (advance h v .records) ≡ named m (lineQuery (advance h v .world) s e)
+    → (m : Measure) (s e : ℕ) → InBook (h .world .opening) s e
+    → total m s e (advance h v .records) ≡ named m (lineQuery (advance h v .world) s e)
 rounds-of h o i v c m s e b = rw (advance-is h v, c) (round-total h o i (inv-after o h i v Round c) m s e b)
 
 -- ---- demand 3
@@ -283,21 +304,24 @@ module _ (w : World) (a : openingAnswer w ≡ 0) (vs : List Event) where
   pub kept : Kept w vs
   kept = record {
     fresh = subst (λ o. (s e : ℕ) → InBook o s e → lineQuery (x .world) s e
-        ≡ lineNamed (line (termsOf o) (freshFacts (x .fresh)) Measure.quantity s e) (line (termsOf o) (freshFacts (x .fresh)) Measure.amount s e))
+        ≡ lineNamed (line (termsOf o) (freshFacts (x .fresh)) Measure.quantity s e)
+        (line (termsOf o) (freshFacts (x .fresh)) Measure.amount s e))
         (i .opening) (query-fresh x (w .opening) i);
     local = λ v. subst (λ o. (s e : ℕ) → InBook o s e → (Holds o (x .fresh) s (v .fields .point) → ⊥)
         → (Holds o (advanceAll (begin (opened w)) (vs ++ (v ∷ [])) .fresh) s (v .fields .point) → ⊥)
         → lineQuery (advanceAll (begin (opened w)) (vs ++ (v ∷ [])) .world) s e ≡ lineQuery (x .world) s e)
         (i .opening) (λ s e b n r. rw (snoc v) (local-of x (w .opening) i v s e b n (rw (snoc v) at r)));
     rounds = λ v k q. subst (λ o. (m : Measure) (s e : ℕ) → InBook o s e
-        → total m s e (advanceAll (begin (opened w)) (vs ++ (v ∷ [])) .records) ≡ named m (lineQuery (advanceAll (begin (opened w)) (vs ++ (v ∷ [])) .world) s e))
+        → total m s e (advanceAll (begin (opened w)) (vs ++ (v ∷ [])) .records) ≡ named m
+        (lineQuery (advanceAll (begin (opened w)) (vs ++ (v ∷ [])) .world) s e))
         (i .opening) (λ m s e b. rw (snoc v) (rounds-of x (w .opening) i v (round-accepted (x .world) v k q) m s e b));
     totals = subst (λ (o : Opening). (m : Measure) (e : ℕ) → e < o .elements
         → sumTo (λ s. named m (lineQuery (x .world) (suc s) e)) (o .suppliers)
         ≡ sumTo (λ p. sumTo (λ d. owedByHolder (termsOf o) (freshFacts (x .fresh)) m p e (monthFirst o + d)) (monthDays o)) (o .points))
         (i .opening) (totals-of x (w .opening) i);
     whole = i .whole;
-    small = subst (λ o. (m : Measure) (s e : ℕ) → InBook o s e → natAbs (named m (lineQuery (x .world) s e)) ≤ reachedLimit m) (i .opening) (small-of x (w .opening) i);
+    small = subst (λ o. (m : Measure) (s e : ℕ) → InBook o s e → natAbs (named m (lineQuery (x .world) s e)) ≤ reachedLimit m) (i .opening)
+        (small-of x (w .opening) i);
     full = λ v. subst (λ (o : Opening). (b : Message) → understood (o .suppliers) (v .fields) ≡ some b
         → answer (x .world) (v .fields) (length (v .lent)) ≡ 17 → rowsFit (tablesAfter (x .world) (b .body)) ≡ false)
         (i .opening) (full-of x (w .opening) i v);

@@ -14,12 +14,16 @@ use Rattle.rules.specs.Basics.{within, chained, allIn}
 use Rattle.rules.specs.Rows.{packPeriod, packValue, recordRow}
 use Rattle.rules.specs.World.{Opening, Tables, World, rowsOf, tableOf}
 use Rattle.rules.specs.Sizes.{places, endOfDays, holderSize, lastRound, mostEnergy, stateSize}
-use Rattle.rules.specs.WellFormed.{withinLimits, rowsFit, openingSized, tablesSized, linesSized, periodRight, apart, valueRight, earlier, linksRight, holdersRight, statesRight, tablesRight, linesRight, question2, question3, question4, question5}
+use Rattle.rules.specs.WellFormed.{withinLimits, rowsFit, openingSized, tablesSized, linesSized, periodRight, apart, valueRight}
+use Rattle.rules.specs.WellFormed.{earlier, linksRight, holdersRight, statesRight, tablesRight, linesRight, question2, question3}
+use Rattle.rules.specs.WellFormed.{question4, question5}
 use Rattle.rules.specs.Questions.{pointOf}
-use Rattle.rules.specs.Effects.{withLinks, withHolders, withStates, withReadings, withBlocks, linkEnd, told, movedLine, movedLines, isRound, sentAfter, tablesAfter, linesAfter, posted, question17}
+use Rattle.rules.specs.Effects.{withLinks, withHolders, withStates, withReadings, withBlocks, linkEnd, told, movedLine, movedLines}
+use Rattle.rules.specs.Effects.{isRound, sentAfter, tablesAfter, linesAfter, posted, question17}
 use Rattle.rules.proofs.Tests.{cases, both}
 use Rattle.rules.proofs.Ranges.{all-set}
-use Rattle.rules.proofs.PeriodsRight.{packed, run-chained, run-insert, run-stop, run-split, right-pack, right-insert, right-stop, right-split}
+use Rattle.rules.proofs.PeriodsRight.{packed, run-chained, run-insert, run-stop, run-split, right-pack, right-insert, right-stop}
+use Rattle.rules.proofs.PeriodsRight.{right-split}
 use Rattle.rules.proofs.ValuesRight.{record-chained, record-right, value-right}
 use Rattle.rules.proofs.Stored.{length-lines}
 use Rattle.rules.proofs.Parts.{table-ordered, table-each, table-right, tables-right, links-each, links-run}
@@ -33,7 +37,13 @@ use Rattle.rules.proofs.Agree.{link-fee, link-ends}
 module _ (op : Opening) (t : Tables) (k : TablesRight op t) where
   links-kept : (rows : List ℕ) → chained apart rows ≡ true → allIn (periodRight op) rows ≡ true → TablesRight op (withLinks t rows)
   unfolding withLinks linksRight
-  links-kept rows c a = record { links = table-right apart (periodRight op) rows c a; holders = k .holders; states = k .states; readings = k .readings; blocks = k .blocks }
+  links-kept rows c a = record {
+    links = table-right apart (periodRight op) rows c a;
+    holders = k .holders;
+    states = k .states;
+    readings = k .readings;
+    blocks = k .blocks;
+  }
 
   holders-kept : (p d h : ℕ) → p < op .points → d < endOfDays → h < holderSize → h ≤ op .suppliers
       → TablesRight op (withHolders t (recordRow holderSize (packValue holderSize p d h) (rowsOf (t .holders))))
@@ -45,7 +55,9 @@ module _ (op : Opening) (t : Tables) (k : TablesRight op t) where
         links = k .links;
         holders = table-right order each _
             (record-chained holderSize (omega arith) _ _ (table-ordered order each (t .holders) (k .holders)))
-            (record-right holderSize (omega arith) each _ _ (value-right holderSize (omega arith) op 0 (op .suppliers) p d h hp hd hv (omega arith) hs) (table-each order each (t .holders) (k .holders)));
+            (record-right holderSize (omega arith) each _ _
+            (value-right holderSize (omega arith) op 0 (op .suppliers) p d h hp hd hv (omega arith) hs)
+            (table-each order each (t .holders) (k .holders)));
         states = k .states;
         readings = k .readings;
         blocks = k .blocks;
@@ -62,18 +74,31 @@ module _ (op : Opening) (t : Tables) (k : TablesRight op t) where
         holders = k .holders;
         states = table-right order each _
             (record-chained stateSize (omega arith) _ _ (table-ordered order each (t .states) (k .states)))
-            (record-right stateSize (omega arith) each _ _ (value-right stateSize (omega arith) op 1 4 p d v hp hd (omega arith) h1 h4) (table-each order each (t .states) (k .states)));
+            (record-right stateSize (omega arith) each _ _ (value-right stateSize (omega arith) op 1 4 p d v hp hd (omega arith) h1 h4)
+            (table-each order each (t .states) (k .states)));
         readings = k .readings;
         blocks = k .blocks;
       }
 
   readings-kept : (i n : ℕ) → n ≤ mostEnergy → TablesRight op (withReadings t (set (t .readings) i n))
   unfolding withReadings
-  readings-kept i n h = record { links = k .links; holders = k .holders; states = k .states; readings = all-set _ (t .readings) i n (le-leb n mostEnergy h) (k .readings); blocks = k .blocks }
+  readings-kept i n h = record {
+    links = k .links;
+    holders = k .holders;
+    states = k .states;
+    readings = all-set _ (t .readings) i n (le-leb n mostEnergy h) (k .readings);
+    blocks = k .blocks;
+  }
 
   blocks-kept : (p b : ℕ) → b ≤ 1 → TablesRight op (withBlocks t (set (t .blocks) p b))
   unfolding withBlocks
-  blocks-kept p b h = record { links = k .links; holders = k .holders; states = k .states; readings = k .readings; blocks = all-set _ (t .blocks) p b (le-leb b 1 h) (k .blocks) }
+  blocks-kept p b h = record {
+    links = k .links;
+    holders = k .holders;
+    states = k .states;
+    readings = k .readings;
+    blocks = all-set _ (t .blocks) p b (le-leb b 1 h) (k .blocks);
+  }
 
 pub told-right : (op : Opening) (t : Tables) (b : Body) → Ready op t b → TablesRight op (told op t b)
 unfolding told pointOf
@@ -87,7 +112,8 @@ told-right op t (Link p e a q) r =
     let m = link-ends op t p e a (g .0) in
     let f = packed p e a b q (omega arith) (omega arith) (omega arith) (omega arith) in
     links-kept op t k _
-    (run-chained (run-insert p e a b (packPeriod p e a b q) (omega arith) (f .point) (f .element) (f .first) (f .end) (omega arith) (m .0) {k = 0} (omega arith) (m .1)
+    (run-chained (run-insert p e a b (packPeriod p e a b q) (omega arith) (f .point) (f .element) (f .first) (f .end) (omega arith)
+    (m .0) {k = 0} (omega arith) (m .1)
     (own-link op t p e a q k (r .own)) (links-run op (t .links) (k .links))))
     (right-insert op (c .elements) (packPeriod p e a b q) (rowsOf (t .links))
     (right-pack op (c .elements) p e a b q hp (i .0) (m .0) (m .2) (g .1) (g .2)
@@ -109,7 +135,8 @@ told-right op t (Quantity p e a q) r =
     let g = r .range in
     links-kept op t k _
     (run-chained (run-split p e a (omega arith) (omega arith) q (g .1) (omega arith) (links-run op (t .links) (k .links))))
-    (right-split op (c .elements) p e a (g .0) q (g .1) (g .2) (own-quantity op t p e a q k (r .own) .0) (rowsOf (t .links)) (links-each op (t .links) (k .links)))
+    (right-split op (c .elements) p e a (g .0) q (g .1) (g .2) (own-quantity op t p e a q k (r .own) .0) (rowsOf (t .links))
+    (links-each op (t .links) (k .links)))
 told-right op t (Holder p a h) r =
     let c = r .limited in
     let g = r .range in
@@ -152,7 +179,8 @@ module _ (op : Opening) (t : Tables) (rows : List ℕ) (h : tablesSized op t ≡
       rw (k .0, m .0, length-table rows l) (both (eqb (length (t .states .words)) places) _ (m .1) .1)
 
 -- tables that fit have the lengths that they had
-pub told-sized : (op : Opening) (t : Tables) (b : Body) → tablesSized op t ≡ true → rowsFit (told op t b) ≡ true → tablesSized op (told op t b) ≡ true
+pub told-sized : (op : Opening) (t : Tables) (b : Body) → tablesSized op t ≡ true → rowsFit (told op t b) ≡ true
+    → tablesSized op (told op t b) ≡ true
 unfolding told
 told-sized op t (Link p e d q) h f = links-sized op t _ h f
 told-sized op t (Stop p e d) h f = links-sized op t _ h f
@@ -166,7 +194,8 @@ told-sized op t Round h f = h
 -- ---- what was sent
 
 -- a property of what was sent, kept by a round that sends lines with the property
-sent-kept : (P : List ℤ → Bool) (w : World) (b : Body) → P (w .position .lines) ≡ true → P (w .sent .totals) ≡ true → P (sentAfter w b .totals) ≡ true
+sent-kept : (P : List ℤ → Bool) (w : World) (b : Body) → P (w .position .lines) ≡ true → P (w .sent .totals) ≡ true
+    → P (sentAfter w b .totals) ≡ true
 unfolding sentAfter
 sent-kept P w b h k = cases (isRound b) (λ c. rw c h) (λ c. rw c k)
 
@@ -184,7 +213,8 @@ lines-sized : (op : Opening) (ls : List ℤ) (t v : Tables) → linesSized op (m
 unfolding linesSized movedLines
 lines-sized op ls t v = eq-eqb _ _ (length-lines op (movedLine op ls t v))
 
-pub posted-whole : (w : World) (b : Body) → Whole w → Ready (w .opening) (w .position .tables) b → question17 w b ≡ true → Whole (posted w b)
+pub posted-whole : (w : World) (b : Body) → Whole w → Ready (w .opening) (w .position .tables) b → question17 w b ≡ true
+    → Whole (posted w b)
 unfolding posted question17 question2 question3 question4 question5
 posted-whole w b c r q =
     let o = w .opening in

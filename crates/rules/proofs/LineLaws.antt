@@ -50,7 +50,12 @@ module _ (t : Terms) (f g : Facts) (m : Measure) (s e : ℕ) where
       → owed t f m s p e (t .first + i) ≡ owed t g m s p e (t .first + i)
   unfolding owed chargedTo
   owed-cong p i k a =
-      cc (a .holder i k, a .counts i k, a .quantity e i k, charge-cong t f g m p e (t .first + i) (a .quantity e i k) (λ h l. a .energy i h k l))
+      cc (
+        a .holder i k,
+        a .counts i k,
+        a .quantity e i k,
+        charge-cong t f g m p e (t .first + i) (a .quantity e i k) (λ h l. a .energy i h k l),
+      )
 
   pub pointLine-cong : (p : ℕ) → SameAt t f g p → pointLine t f m s p e ≡ pointLine t g m s p e
   unfolding pointLine

@@ -55,14 +55,16 @@ module _ (w : World) (c : Whole w) (s e : ℕ) (b : InBook (w .opening) s e) whe
       let l = both (linesRight (w .opening) (w .position .lines)) _ (r .1) .0 in
       all-at _ _ l ((s - 1) * w .opening .elements + e) (line-below (w .opening) s e b)
 
-  third : leZ (pos 0) (getD (w .position .lines) (lineAt (w .opening) s e + 2) (pos 0)) && leZ (getD (w .position .lines) (lineAt (w .opening) s e + 2) (pos 0)) (pos (billion - 1)) ≡ true
+  third : leZ (pos 0) (getD (w .position .lines) (lineAt (w .opening) s e + 2) (pos 0)) && leZ
+      (getD (w .position .lines) (lineAt (w .opening) s e + 2) (pos 0)) (pos (billion - 1)) ≡ true
   unfolding lineRight
   third =
       let i = lineAt (w .opening) s e in
       let h = both (leb (natAbs (storedAt (w .position .lines) Measure.quantity i)) (lineLimit Measure.quantity)) _ right-line in
       both (leb (natAbs (storedAt (w .position .lines) Measure.amount i)) (lineLimit Measure.amount)) _ (h .1) .1
 
-  pub query-stored : lineQuery w s e ≡ lineNamed (stored (w .opening) (w .position .lines) Measure.quantity s e) (stored (w .opening) (w .position .lines) Measure.amount s e)
+  pub query-stored : lineQuery w s e ≡ lineNamed (stored (w .opening) (w .position .lines) Measure.quantity s e)
+      (stored (w .opening) (w .position .lines) Measure.amount s e)
   unfolding lineQuery lineStored lineNamed stored storedAt
   query-stored =
       let i = lineAt (w .opening) s e in

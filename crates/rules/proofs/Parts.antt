@@ -13,7 +13,9 @@ use Rattle.rules.specs.Basics.{within, chained, allIn}
 use Rattle.rules.specs.World.{Opening, Table, Tables, World, rowsOf, tableOf}
 use Rattle.rules.specs.Sizes.{elementSize, places, pricePlaces}
 use Rattle.rules.specs.Sizes.{firstYear, lastMonth, lastYear, mostElements, mostEnergy, mostLines, mostPoints, mostSuppliers}
-use Rattle.rules.specs.WellFormed.{withinLimits, rowsFit, readingCount, linePlaces, openingSized, tablesSized, linesSized, periodRight, apart, tableRight, linksRight, holdersRight, statesRight, tablesRight, linesRight, question2, question3, question5}
+use Rattle.rules.specs.WellFormed.{withinLimits, rowsFit, readingCount, linePlaces, openingSized, tablesSized, linesSized}
+use Rattle.rules.specs.WellFormed.{periodRight, apart, tableRight, linksRight, holdersRight, statesRight, tablesRight, linesRight}
+use Rattle.rules.specs.WellFormed.{question2, question3, question5}
 use Rattle.rules.proofs.Tests.{both}
 use Rattle.rules.proofs.Ranges.{within-low, within-high, all-same}
 use Rattle.rules.specs.Order.{Run}
@@ -106,7 +108,9 @@ module _ (order : ℕ → ℕ → Bool) (right : ℕ → Bool) where
   -- rows in order, each right by itself, make a right table
   pub table-right : (rows : List ℕ) → chained order rows ≡ true → allIn right rows ≡ true → tableRight order right (tableOf rows) ≡ true
   unfolding tableRight
-  table-right rows c a = rw (rows-table rows, c, a) (unfold tableOf in rw (drop-append-seam rows (replicate (places - length rows) 0)) (all-same (λ x. eqb x 0) (places - length rows) 0 refl))
+  table-right rows c a = rw (rows-table rows, c, a)
+      (unfold tableOf in rw (drop-append-seam rows (replicate (places - length rows) 0))
+      (all-same (λ x. eqb x 0) (places - length rows) 0 refl))
 
 pub tables-parts : (o : Opening) (t : Tables) → tablesRight o t ≡ true → TablesRight o t
 unfolding tablesRight

@@ -18,7 +18,8 @@ use Rattle.rules.specs.Basics.{within, when, asked}
 use Rattle.rules.specs.World.{Opening, Tables, World, rowsOf, kindOf, isTariff, linkedOn, monthFirst, monthDays}
 use Rattle.rules.specs.WellFormed.{question2, question3, question4, question5}
 use Rattle.rules.specs.Messages.{isDay, noHour, noElement, isQuantity, senderOf, bodyOf, both as bothOf, understood, bodyIn}
-use Rattle.rules.specs.Questions.{pointOf, placeOf, tariffOnce, question7, question8, question9, question10, question11, question12, question13, question15, question16, ownNumber, ownQuestion}
+use Rattle.rules.specs.Questions.{pointOf, placeOf, tariffOnce, question7, question8, question9, question10, question11, question12}
+use Rattle.rules.specs.Questions.{question13, question15, question16, ownNumber, ownQuestion}
 use Rattle.rules.specs.Effects.{ask, question17, question18, answerTo, askBook, answer, accepted, written, writtenBy, recordsOf}
 use Rattle.rules.proofs.Tests.{tests, cases, both}
 use Rattle.rules.proofs.Ranges.{within-low, within-high}
@@ -32,12 +33,16 @@ use Rattle.rules.specs.Ready.{Ranged, Ready}
 
 module _ (suppliers : ℕ) (f : Fields) (P : Body → Type 0) where
   pub record Made : Type 0 where
-    pub link : f .kind ≡ 1 → isDay (f .day) && (noHour f && isQuantity (f .value)) ≡ true → P (Link (f .point) (f .element) (f .day) (f .value))
+    pub link : f .kind ≡ 1 → isDay (f .day) && (noHour f && isQuantity (f .value)) ≡ true
+        → P (Link (f .point) (f .element) (f .day) (f .value))
     pub stop : f .kind ≡ 2 → isDay (f .day) && (noHour f && eqb (f .value) 0) ≡ true → P (Stop (f .point) (f .element) (f .day))
-    pub quantity : f .kind ≡ 3 → isDay (f .day) && (noHour f && isQuantity (f .value)) ≡ true → P (Quantity (f .point) (f .element) (f .day) (f .value))
-    pub holder : f .kind ≡ 4 → isDay (f .day) && (noElement f && leb (f .value) suppliers) ≡ true → P (Holder (f .point) (f .day) (f .value))
+    pub quantity : f .kind ≡ 3 → isDay (f .day) && (noHour f && isQuantity (f .value)) ≡ true
+        → P (Quantity (f .point) (f .element) (f .day) (f .value))
+    pub holder : f .kind ≡ 4 → isDay (f .day) && (noElement f && leb (f .value) suppliers) ≡ true
+        → P (Holder (f .point) (f .day) (f .value))
     pub state : f .kind ≡ 5 → isDay (f .day) && (noElement f && within 1 4 (f .value)) ≡ true → P (State (f .point) (f .day) (f .value))
-    pub reading : f .kind ≡ 6 → isDay (f .day) && (eqb (f .element) 0 && (ltb (f .hour) hourPlaces && leb (f .value) mostEnergy)) ≡ true → P (Reading (f .point) (f .day) (f .hour) (f .value))
+    pub reading : f .kind ≡ 6 → isDay (f .day) && (eqb (f .element) 0 && (ltb (f .hour) hourPlaces && leb (f .value) mostEnergy)) ≡ true
+        → P (Reading (f .point) (f .day) (f .hour) (f .value))
     pub block : f .kind ≡ 7 → eqb (f .day) 0 && (noElement f && leb (f .value) 1) ≡ true → P (Block (f .point) (f .value))
     pub round : P Round
 
@@ -47,7 +52,8 @@ module _ (suppliers : ℕ) (f : Fields) (P : Body → Type 0) where
     of-when true a g e = let z : a ≡ b = cc in subst P z (g refl)
     of-when false a g e = absurd (let z : _≡_ {A = ℕ} 0 1 = cc in omega arith)
 
-    of-cond : (n k : ℕ) (t : Bool) (a : Body) (y : Option Body) → (n ≡ k → t ≡ true → P a) → (y ≡ some b → P b) → cond (eqb n k) (when t a) y ≡ some b → P b
+    of-cond : (n k : ℕ) (t : Bool) (a : Body) (y : Option Body) → (n ≡ k → t ≡ true → P a) → (y ≡ some b → P b)
+        → cond (eqb n k) (when t a) y ≡ some b → P b
     of-cond n k t a y g h e = cases (eqb n k)
         (λ c. of-when t a (g (eqb-true n k c)) (rw c at e))
         (λ c. h (rw c at e))
@@ -97,12 +103,14 @@ module _ (suppliers : ℕ) (f : Fields) where
         stop = λ _ t. day-value (noHour f) (eqb (f .value) 0) t .0;
         quantity = λ _ t. quantity-value t;
         holder = λ _ t. let k = day-value (noElement f) (leb (f .value) suppliers) t in (k .0, leb-true _ _ (k .1));
-        state = λ _ t. let k = day-value (noElement f) (within 1 4 (f .value)) t in (k .0, within-low 1 4 (f .value) (k .1), within-high 1 4 (f .value) (k .1));
+        state = λ _ t. let k = day-value (noElement f) (within 1 4 (f .value)) t in
+            (k .0, within-low 1 4 (f .value) (k .1), within-high 1 4 (f .value) (k .1));
         reading = λ _ t.
             let k = day-value (eqb (f .element) 0) (ltb (f .hour) hourPlaces && leb (f .value) mostEnergy) t in
             let l = both (ltb (f .hour) hourPlaces) (leb (f .value) mostEnergy) (k .1) in
             (k .0, ltb-true _ _ (l .0), leb-true _ _ (l .1));
-        block = λ _ t. leb-true _ _ (both (noElement f) (leb (f .value) 1) (both (eqb (f .day) 0) (noElement f && leb (f .value) 1) t .1) .1);
+        block = λ _ t. leb-true _ _ (both (noElement f) (leb (f .value) 1)
+            (both (eqb (f .day) 0) (noElement f && leb (f .value) 1) t .1) .1);
         round = tt;
       }
 
@@ -146,7 +154,8 @@ module _ (o : Opening) (t : Tables) where
   unfolding ownQuestion question13
   own-link p e d q r h = sym (linked-on p e d r) ∙ not-true (linkedOn t p e d) h
 
-  pub own-quantity : (p e d q : ℕ) → TablesRight o t → ownQuestion o t (Quantity p e d q) ≡ true → (kindOf o e ≢ 3) × (linkedIn (rowsOf (t .links)) p e d ≡ true)
+  pub own-quantity : (p e d q : ℕ) → TablesRight o t → ownQuestion o t (Quantity p e d q) ≡ true → (kindOf o e ≢ 3)
+      × (linkedIn (rowsOf (t .links)) p e d ≡ true)
   unfolding ownQuestion question15 isTariff
   own-quantity p e d q r h =
       let k = both (not (eqb (kindOf o e) 3)) (linkedOn t p e d) h in
@@ -155,7 +164,8 @@ module _ (o : Opening) (t : Tables) where
 
   pub own-reading : (p d h n : ℕ) → ownQuestion o t (Reading p d h n) ≡ true → (monthFirst o ≤ d) × (d < monthFirst o + monthDays o)
   unfolding ownQuestion question16
-  own-reading p d h n e = let k = both (leb (monthFirst o) d) (ltb d (monthFirst o + monthDays o)) e in (leb-true _ _ (k .0), ltb-true _ _ (k .1))
+  own-reading p d h n e = let k = both (leb (monthFirst o) d) (ltb d (monthFirst o + monthDays o)) e in
+      (leb-true _ _ (k .0), ltb-true _ _ (k .1))
 
   pub element-link : (p e d q : ℕ) → question8 o (Link p e d q) ≡ true → (e < o .elements) × (kindOf o e ≡ 3 → q ≡ 1)
   unfolding question8 asked placeOf tariffOnce isTariff
@@ -184,7 +194,8 @@ asked-passed true n rest k h e = (refl, e)
 asked-passed false n rest k h e = absurd (h e)
 
 -- a body that is asked nothing of its own passes, whatever the number
-own-passed : (o : Opening) (t : Tables) (b : Body) (rest k : ℕ) → ((n : ℕ) → 2 ≤ n → n ≤ 16 → n ≢ k) → ask (ownQuestion o t b) (ownNumber b) rest ≡ k → (ownQuestion o t b ≡ true) × (rest ≡ k)
+own-passed : (o : Opening) (t : Tables) (b : Body) (rest k : ℕ) → ((n : ℕ) → 2 ≤ n → n ≤ 16 → n ≢ k)
+    → ask (ownQuestion o t b) (ownNumber b) rest ≡ k → (ownQuestion o t b ≡ true) × (rest ≡ k)
 unfolding ownNumber
 own-passed o t (Link p e d q) rest k h a = asked-passed _ 13 rest k (h 13 (omega arith) (omega arith)) a
 own-passed o t (Stop p e d) rest k h a = asked-passed _ 14 rest k (h 14 (omega arith) (omega arith)) a
@@ -210,7 +221,8 @@ module _ (w : World) (f : Fields) (room k : ℕ) (h : (n : ℕ) → 2 ≤ n → 
   behind-message c (some m) u e =
       let a7 = asked-passed (question7 (w .opening) (m .body)) 7 _ k (h 7 (omega arith) (omega arith)) e in
       let a8 = asked-passed (question8 (w .opening) (m .body)) 8 _ k (h 8 (omega arith) (omega arith)) (a7 .1) in
-      let a9 = asked-passed (question9 (w .opening) (w .position .tables) (m .sender) (m .body)) 9 _ k (h 9 (omega arith) (omega arith)) (a8 .1) in
+      let a9 = asked-passed (question9 (w .opening) (w .position .tables) (m .sender) (m .body)) 9 _ k (h 9 (omega arith) (omega arith))
+      (a8 .1) in
       let a10 = asked-passed (question10 (m .sender) (m .received) (m .body)) 10 _ k (h 10 (omega arith) (omega arith)) (a9 .1) in
       let a11 = asked-passed (question11 (w .position .tables) (m .body)) 11 _ k (h 11 (omega arith) (omega arith)) (a10 .1) in
       let a12 = asked-passed (question12 (w .position .tables) (m .body)) 12 _ k (h 12 (omega arith) (omega arith)) (a11 .1) in
@@ -242,10 +254,12 @@ module _ (w : World) (f : Fields) (room k : ℕ) (h : (n : ℕ) → 2 ≤ n → 
       (understood (w .opening .suppliers) f) refl (a5 .1)
 
 -- 17 is said where the tables or the lines do not fit
-pub refused-17 : (w : World) (f : Fields) (room : ℕ) → answer w f room ≡ 17 → (b : Behind w f room 17) → question17 w (b .message .body) ≡ false
+pub refused-17 : (w : World) (f : Fields) (room : ℕ) → answer w f room ≡ 17 → (b : Behind w f room 17)
+    → question17 w (b .message .body) ≡ false
 unfolding ask
 refused-17 w f room e b = cases (question17 w (b .message .body))
-    (λ t. let r : ask (question18 w (b .message .body) room) 18 0 ≡ 17 = rw t at (b .rest) in absurd (never (question18 w (b .message .body) room) r))
+    (λ t. let r : ask (question18 w (b .message .body) room) 18 0 ≡ 17 = rw t at (b .rest) in
+    absurd (never (question18 w (b .message .body) room) r))
     (λ t. t)
   where
     never : (c : Bool) → ask c 18 0 ≡ 17 → ⊥
@@ -268,7 +282,8 @@ unfolding accepted bodyIn
 taken w f room b e = cases (eqb (answer w f room) 0)
     (λ t. let z = eqb-true (answer w f room) 0 t in
     let c = behind w f room 0 (λ n i j k. omega arith) z in
-    let y : some (c .message .body) ≡ some b = let k : bodyIn (understood (w .opening .suppliers) f) ≡ some b = rw t at e in rw (c .is) at k in
+    let y : some (c .message .body) ≡ some b = let k : bodyIn (understood (w .opening .suppliers) f) ≡ some b = rw t at e in
+    rw (c .is) at k in
     let x : c .message .body ≡ b = cc in
     record {
       zero = z;

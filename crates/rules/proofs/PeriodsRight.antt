@@ -8,13 +8,15 @@ use borrow.Author.Tests.{eqb-true, eq-eqb, le-leb, leb-true, lt-ltb, ltb-true}
 use native.Mathlib.Omega.{arith}
 use native.Mathlib.Nat.{le-refl}
 use Rattle.rules.specs.Sizes.{dayRoom, elementRoom, endOfDays, mostElements, mostQuantity, quantityRoom}
-use Rattle.rules.specs.Rows.{packPeriod, periodPoint, periodElement, periodFirst, periodEnd, periodQuantity, ofPair, covers, nextStart, insertRow, stopRows, splitRows}
+use Rattle.rules.specs.Rows.{packPeriod, periodPoint, periodElement, periodFirst, periodEnd, periodQuantity, ofPair, covers}
+use Rattle.rules.specs.Rows.{nextStart, insertRow, stopRows, splitRows}
 use Rattle.rules.specs.World.{Opening, kindOf}
 use Rattle.rules.specs.Basics.{within, chained, allIn}
 use Rattle.rules.specs.WellFormed.{periodRight, apart}
 use Rattle.rules.proofs.Tests.{tests, cases, both, neither}
 use Rattle.rules.specs.Order.{from, upto, Run, done, next, linkedIn}
-use Rattle.rules.proofs.Words.{first-lt, end-lt, quantity-lt, element-lt, point-pack, element-pack, first-pack, end-pack, quantity-pack, pair-true, pair-false, from-is, from-lt, lt-from, covers-is}
+use Rattle.rules.proofs.Words.{first-lt, end-lt, quantity-lt, element-lt, point-pack, element-pack, first-pack, end-pack}
+use Rattle.rules.proofs.Words.{quantity-pack, pair-true, pair-false, from-is, from-lt, lt-from, covers-is}
 use Rattle.rules.proofs.Clauses.{next-cons, insert-nil, insert-cons, stop-nil, stop-cons, split-nil, split-cons}
 use Rattle.rules.proofs.Runs.{weaken, linked-cons, covered}
 
@@ -45,7 +47,8 @@ right-of op r h =
     let h4 = both (leb (periodEnd r) endOfDays) _ (h3 .1) in
     let h5 = both (leb 1 (periodQuantity r) && leb (periodQuantity r) mostQuantity) _ (h4 .1) in
     let h6 = both (leb 1 (periodQuantity r)) (leb (periodQuantity r) mostQuantity) (h5 .0) in
-    let h7 = both (not (eqb (kindOf op (periodElement r)) 2) || eqb (periodEnd r) (suc (periodFirst r))) (not (eqb (kindOf op (periodElement r)) 3) || eqb (periodQuantity r) 1) (h5 .1) in
+    let h7 = both (not (eqb (kindOf op (periodElement r)) 2) || eqb (periodEnd r) (suc (periodFirst r)))
+    (not (eqb (kindOf op (periodElement r)) 3) || eqb (periodQuantity r) 1) (h5 .1) in
     record {
       point = ltb-true _ _ (h1 .0);
       element = ltb-true _ _ (h2 .0);
@@ -59,7 +62,16 @@ right-of op r h =
 
 pub is-right : (op : Opening) (r : ℕ) → Right op r → periodRight op r ≡ true
 unfolding periodRight within
-is-right op r h = rw (lt-ltb _ _ (h .point), lt-ltb _ _ (h .element), lt-ltb _ _ (h .days), le-leb _ _ (h .last), le-leb _ _ (h .some), le-leb _ _ (h .most), if-is _ _ _ _ (h .fee), if-is _ _ _ _ (h .tariff))
+is-right op r h = rw (
+  lt-ltb _ _ (h .point),
+  lt-ltb _ _ (h .element),
+  lt-ltb _ _ (h .days),
+  le-leb _ _ (h .last),
+  le-leb _ _ (h .some),
+  le-leb _ _ (h .most),
+  if-is _ _ _ _ (h .fee),
+  if-is _ _ _ _ (h .tariff),
+)
 
 -- ---- apart, and a run
 
@@ -86,7 +98,8 @@ is-apart r s h k =
     rw (l, o, l′))
     (λ o. rw (l, o))
 
-pub run-of : (op : Opening) (r : ℕ) (rs : List ℕ) → chained apart (r ∷ rs) ≡ true → allIn (periodRight op) (r ∷ rs) ≡ true → Run (from r) (r ∷ rs)
+pub run-of : (op : Opening) (r : ℕ) (rs : List ℕ) → chained apart (r ∷ rs) ≡ true → allIn (periodRight op) (r ∷ rs) ≡ true
+    → Run (from r) (r ∷ rs)
 unfolding chained allIn
 run-of op r [] c a = let h = right-of op r (both _ _ a .0) in
     let d = h .days in
@@ -94,7 +107,8 @@ run-of op r [] c a = let h = right-of op r (both _ _ a .0) in
 run-of op r (s ∷ rs) c a = let h = right-of op r (both _ _ a .0) in
     let d = h .days in
     let k = both _ _ c in
-    next {w = r} (le-refl _) (omega arith) (h .some) (weaken (apart-gives r s (k .0)) (run-of op s rs (k .1) (both (periodRight op r) _ a .1)))
+    next {w = r} (le-refl _) (omega arith) (h .some)
+    (weaken (apart-gives r s (k .0)) (run-of op s rs (k .1) (both (periodRight op r) _ a .1)))
 
 pub run-rows : (op : Opening) (rs : List ℕ) → chained apart rs ≡ true → allIn (periodRight op) rs ≡ true → Run 0 rs
 run-rows op [] c a = done
@@ -108,8 +122,10 @@ run-chained (next {w = r} i j c (next {w = s} i′ j′ c′ r′)) = rw (is-apa
 
 -- ---- a row put in
 
-module _ (p e a b w : ℕ) (he : e < elementRoom) (wp : periodPoint w ≡ p) (we : periodElement w ≡ e) (wa : periodFirst w ≡ a) (wb : periodEnd w ≡ b) (wq : 1 ≤ periodQuantity w) (hb : a < b) where
-  pub run-insert : {k : ℕ} {ws : List ℕ} → k ≤ from w → b ≤ nextStart ws p e a → linkedIn ws p e a ≡ false → Run k ws → Run k (insertRow w ws)
+module _ (p e a b w : ℕ) (he : e < elementRoom) (wp : periodPoint w ≡ p) (we : periodElement w ≡ e) (wa : periodFirst w ≡ a)
+    (wb : periodEnd w ≡ b) (wq : 1 ≤ periodQuantity w) (hb : a < b) where
+  pub run-insert : {k : ℕ} {ws : List ℕ} → k ≤ from w → b ≤ nextStart ws p e a → linkedIn ws p e a ≡ false → Run k ws
+      → Run k (insertRow w ws)
   run-insert h n l done = rw insert-nil (next {w = w} h (omega arith) wq done)
   run-insert h n l (next {w = x} {ws = xs} i j c r) =
       let m = neither (covers p e a x) (linkedIn xs p e a) (simp linked-cons at l) in
@@ -166,7 +182,8 @@ module _ (p e a : ℕ) (he : e < elementRoom) (ha : a < dayRoom) where
       (λ t. cases (ltb a (periodEnd w))
       (λ u. let v = packPeriod p e (periodFirst w) a (periodQuantity w) in
       let f = packed p e (periodFirst w) a (periodQuantity w) he (first-lt w) ha (quantity-lt w) in
-      simp (o, t, u) (next {k = k} {w = v} (omega arith) (omega (arith, tests)) (omega arith) (weaken {j = upto v} {k = upto w} (omega (arith, tests)) (run-stop r))))
+      simp (o, t, u) (next {k = k} {w = v} (omega arith) (omega (arith, tests)) (omega arith)
+      (weaken {j = upto v} {k = upto w} (omega (arith, tests)) (run-stop r))))
       (λ u. simp (o, t, u) (next i j c (run-stop r)))))
       (λ o. simp o (next i j c (run-stop r))))
 
@@ -181,7 +198,8 @@ module _ (p e a : ℕ) (he : e < elementRoom) (ha : a < dayRoom) where
       let r′ : Run (upto v) _ = weaken {j = upto v} {k = upto w} (omega arith) r in
       cases (eqb (periodFirst w) a)
       (λ n. simp (t, n) (next {k = k} {w = v} (omega arith) (omega arith) (omega arith) r′))
-      (λ n. simp (t, n) (next {k = k} {w = u} (omega arith) (omega (arith, tests)) (omega arith) (next {k = upto u} {w = v} (omega arith) (omega arith) (omega arith) r′))))
+      (λ n. simp (t, n) (next {k = k} {w = u} (omega arith) (omega (arith, tests)) (omega arith)
+      (next {k = upto u} {w = v} (omega arith) (omega arith) (omega arith) r′))))
       (λ t. simp t (next i j c (run-split q hl hq r))))
 
 -- ---- each row right by itself
@@ -202,7 +220,8 @@ module _ (op : Opening) (he : op .elements ≤ mostElements) where
         tariff = λ k. rw (f .quantity) (tariff (rw (f .element) at k));
       }
 
-  pub right-insert : (r : ℕ) (ws : List ℕ) → periodRight op r ≡ true → allIn (periodRight op) ws ≡ true → allIn (periodRight op) (insertRow r ws) ≡ true
+  pub right-insert : (r : ℕ) (ws : List ℕ) → periodRight op r ≡ true → allIn (periodRight op) ws ≡ true
+      → allIn (periodRight op) (insertRow r ws) ≡ true
   unfolding allIn
   right-insert r [] h a = rw (insert-nil, h)
   right-insert r (x ∷ xs) h a = let k = both (periodRight op x) _ a in simp insert-cons (cases (ltb r x)
@@ -225,14 +244,16 @@ module _ (op : Opening) (he : op .elements ≤ mostElements) where
           t,
           u,
           right-stop xs (k .1),
-          right-pack p e (periodFirst x) a (periodQuantity x) (omega arith) (omega arith) (omega (arith, tests)) (omega arith) (omega arith) (omega arith)
+          right-pack p e (periodFirst x) a (periodQuantity x) (omega arith) (omega arith) (omega (arith, tests)) (omega arith) (omega arith)
+              (omega arith)
               (λ q. let z = f .fee (rw (y .1) q) in absurd (omega (arith, tests)))
               (λ q. f .tariff (rw (y .1) q)),
         ))
         (λ u. simp (o, t, u, k .0, right-stop xs (k .1)))))
         (λ o. simp (o, k .0, right-stop xs (k .1))))
 
-    pub right-split : (q : ℕ) → 1 ≤ q → q ≤ mostQuantity → (kindOf op e ≡ 3 → ⊥) → (ws : List ℕ) → allIn (periodRight op) ws ≡ true → allIn (periodRight op) (splitRows p e a q ws) ≡ true
+    pub right-split : (q : ℕ) → 1 ≤ q → q ≤ mostQuantity → (kindOf op e ≡ 3 → ⊥) → (ws : List ℕ) → allIn (periodRight op) ws ≡ true
+        → allIn (periodRight op) (splitRows p e a q ws) ≡ true
     unfolding allIn
     right-split q h1 hm nt [] h = simp split-nil
     right-split q h1 hm nt (x ∷ xs) h = let k = both (periodRight op x) _ h in
@@ -244,7 +265,8 @@ module _ (op : Opening) (he : op .elements ≤ mostElements) where
         (λ n. absurd (nt n)) in
         cases (eqb (periodFirst x) a)
         (λ t. simp (c, t, g, k .1))
-        (λ t. let g′ = right-pack p e (periodFirst x) a (periodQuantity x) (omega arith) (omega arith) (omega (arith, tests)) (omega arith) (omega arith) (omega arith)
+        (λ t. let g′ = right-pack p e (periodFirst x) a (periodQuantity x) (omega arith) (omega arith) (omega (arith, tests)) (omega arith)
+        (omega arith) (omega arith)
         (λ n. let z = f .fee (rw (y .1) n) in absurd (omega (arith, tests)))
         (λ n. absurd (nt n)) in
         simp (c, t, g, g′, k .1)))

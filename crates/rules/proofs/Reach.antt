@@ -21,7 +21,8 @@ pub goes-on : {k : ℕ} {ws : List ℕ} (p e a d : ℕ) → Run k ws → linkedI
     → goesOn (startsOn ws p e) (quantityOn ws p e) a d ≡ ltb d (endIn ws p e a)
 unfolding goesOn
 goes-on {ws} p e a d r l h = let m = at-end p e a r l in cases (ltb d (endIn ws p e a))
-    (λ t. rw t (all-true _ (d - a) (λ i k. rw (linked-quantity p e (a + 1 + i) r) (inside p e a (a + 1 + i) r l (omega arith) (omega (arith, tests))))))
+    (λ t. rw t (all-true _ (d - a) (λ i k. rw (linked-quantity p e (a + 1 + i) r)
+    (inside p e a (a + 1 + i) r l (omega arith) (omega (arith, tests))))))
     (λ t. let x = endIn ws p e a in
     let s : a + 1 + (x - (a + 1)) ≡ x = omega arith in
     rw t (all-false _ (d - a) (x - (a + 1)) (omega (arith, tests)) (rw (s, linked-quantity p e x r) (m .1))))

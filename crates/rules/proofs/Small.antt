@@ -14,7 +14,8 @@ use Rattle.calendar.proofs.MonthLaws.{days-range}
 use Rattle.rules.specs.Sizes.{mostEnergy, mostPrice, mostQuantity, mostTariffPrice, pricePlaces}
 use Rattle.rules.specs.Basics.{within, allTo, allIn}
 use Rattle.rules.specs.Rows.{covers, quantityOn}
-use Rattle.rules.specs.World.{Opening, Tables, rowsOf, monthDays, kindOf, ownerOf, marksOf, marked, passOn, tax, hourly, hoursOf, priceOf, termsOf, readingAt, energyOf, factsOf}
+use Rattle.rules.specs.World.{Opening, Tables, rowsOf, monthDays, kindOf, ownerOf, marksOf, marked, passOn, tax, hourly, hoursOf}
+use Rattle.rules.specs.World.{priceOf, termsOf, readingAt, energyOf, factsOf}
 use Rattle.rules.specs.WellFormed.{priceLimit, priceSize, elementRight, periodRight}
 use Rattle.rules.proofs.Tests.{tests, cases, both}
 use Rattle.rules.proofs.Ranges.{within-low, within-high, all-at, all-getD}

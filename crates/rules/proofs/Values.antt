@@ -27,7 +27,8 @@ module _ (size : ℕ) where
   recorded-record w p d [] = simp (record-nil, recorded-cons)
   recorded-record w p d (x ∷ xs) = simp (record-cons, recorded-cons)
       (cases (eqb (x / size) (w / size))
-      (λ h. simp (h, recorded-cons) (cases (dated size p d w) (λ k. simp k) (λ k. let z : dated size p d x ≡ false = dated-same p d x w (omega (arith, tests)) ∙ k in simp (k, z))))
+      (λ h. simp (h, recorded-cons) (cases (dated size p d w) (λ k. simp k)
+      (λ k. let z : dated size p d x ≡ false = dated-same p d x w (omega (arith, tests)) ∙ k in simp (k, z))))
       (λ h. simp h (cases (ltb w x)
       (λ k. simp (k, recorded-cons))
       (λ k. simp (k, recorded-cons, recorded-record w p d xs)
@@ -42,4 +43,11 @@ module _ (size : ℕ) where
       → recordedOn size (recordRow size (packValue size p a v) ws) p′ d ≡ cond (here p a p′ d) (some v) (recordedOn size ws p′ d)
   unfolding here
   recorded-pack p a v ha hv ws p′ d =
-      rw (recorded-record (packValue size p a v) p′ d ws, point-value size p a v ha hv, first-value size p a v ha hv, value-pack size p a v ha hv, eqb-comm p p′, eqb-comm a d)
+      rw (
+        recorded-record (packValue size p a v) p′ d ws,
+        point-value size p a v ha hv,
+        first-value size p a v ha hv,
+        value-pack size p a v ha hv,
+        eqb-comm p p′,
+        eqb-comm a d,
+      )

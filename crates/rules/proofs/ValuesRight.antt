@@ -71,7 +71,15 @@ module _ (size : ℕ) (pos : 0 < size) where
       → valueRight size low high op (packValue size p d v) ≡ true
   unfolding valueRight within
   value-right op low high p d v hp hd hv hl hh =
-      rw (point-value size p d v (omega arith) hv, first-value size p d v (omega arith) hv, value-pack size p d v (omega arith) hv, lt-ltb p (op .points) hp, lt-ltb d endOfDays hd, le-leb low v hl, le-leb v high hh)
+      rw (
+        point-value size p d v (omega arith) hv,
+        first-value size p d v (omega arith) hv,
+        value-pack size p d v (omega arith) hv,
+        lt-ltb p (op .points) hp,
+        lt-ltb d endOfDays hd,
+        le-leb low v hl,
+        le-leb v high hh,
+      )
 
 -- no recorded value is above the limit
 pub recorded-high : (size low high : ℕ) (op : Opening) (rows : List ℕ) (p d v : ℕ) → allIn (valueRight size low high op) rows ≡ true
@@ -80,7 +88,8 @@ unfolding allIn valueRight
 recorded-high size low high op [] p d v h e = absurd (let e′ = rw recorded-nil at e in let z : _≡_ {A = ℕ} 0 1 = cc in omega arith)
 recorded-high size low high op (r ∷ rs) p d v h e =
     let k = both (ltb (valuePoint size r) (op .points) && (ltb (valueFirst size r) endOfDays && within low high (valueOf size r))) _ h in
-    let m = both (ltb (valueFirst size r) endOfDays) (within low high (valueOf size r)) (both (ltb (valuePoint size r) (op .points)) _ (k .0) .1) in
+    let m = both (ltb (valueFirst size r) endOfDays) (within low high (valueOf size r))
+    (both (ltb (valuePoint size r) (op .points)) _ (k .0) .1) in
     cases (dated size p d r)
     (λ t. let e′ : some (valueOf size r) ≡ some v = rw (recorded-cons, t) at e in
     let z : valueOf size r ≡ v = cc in

@@ -8,7 +8,8 @@ use borrow.Author.Tests.{eqb-true, eq-eqb}
 use native.Mathlib.Omega.{arith}
 use native.Mathlib.Nat.{mul-add-div-right, div-eq-of-lt, mul-add-mod-self-right, mod-eq-of-lt}
 use Rattle.rules.specs.Sizes.{dayRoom, elementRoom, firstUnit, quantityRoom}
-use Rattle.rules.specs.Rows.{packPeriod, periodPoint, periodElement, periodFirst, periodEnd, periodQuantity, ofPair, covers, packValue, valuePoint, valueFirst, valueOf}
+use Rattle.rules.specs.Rows.{packPeriod, periodPoint, periodElement, periodFirst, periodEnd, periodQuantity, ofPair, covers}
+use Rattle.rules.specs.Rows.{packValue, valuePoint, valueFirst, valueOf}
 use Rattle.rules.proofs.Tests.{both}
 use Rattle.rules.specs.Order.{from}
 

@@ -35,32 +35,45 @@ use Rattle.runner.proofs.PartLaws.{within, AsLong, putBack, parts-back,
 use Rattle.runner.proofs.TextLaws.{nothing-written, reply-text}
 
 -- the run ends with question 1
-pub arm-broken : (at : ℕ) (b : Book) (r : Advanced) (t : Lists) (out after : List ℕ) (from written number : ℕ) → Written longestLine out after from written (refusedLine 0 1)
+pub arm-broken : (at : ℕ) (b : Book) (r : Advanced) (t : Lists) (out after : List ℕ) (from written number : ℕ)
+    → Written longestLine out after from written (refusedLine 0 1)
     → r ≡ advancedTo Phase.Messages true b number at written → Advances (broken at 1) (r .progress) t out after (r .next) from (r .written)
 unfolding broken endedBy
 arm-broken at b r t out after from written number w e = rw e (record { holds = refl; text = loosened (omega arith) w; place = refl })
 
 -- the input ends
-pub arm-over : (at : ℕ) (b : Book) (r : Advanced) (t : Lists) (out : List ℕ) (from : ℕ) → r ≡ advancedTo Phase.Messages true b 1 at from → Advances (quiet over at) (r .progress) t out out (r .next) from (r .written)
+pub arm-over : (at : ℕ) (b : Book) (r : Advanced) (t : Lists) (out : List ℕ) (from : ℕ) → r ≡ advancedTo Phase.Messages true b 1 at from
+    → Advances (quiet over at) (r .progress) t out out (r .next) from (r .written)
 arm-over at b r t out from e = rw e (record { holds = refl; text = nothing-written longestText out from; place = refl })
 
 -- the month
-no-values : (year month points suppliers : ℕ) (t : Lists) → HoldsValues (freshBook year month points suppliers 0) (t .elementData) (t .prices) (record { year = year; month = month; points = points; suppliers = suppliers }) []
+no-values : (year month points suppliers : ℕ) (t : Lists)
+    → HoldsValues (freshBook year month points suppliers 0) (t .elementData) (t .prices)
+    (record { year = year; month = month; points = points; suppliers = suppliers }) []
 unfolding describedAll pricesAll
 no-values year month points suppliers t = record { book = refl; described = λ h. refl; priced = λ h. refl }
 
-pub arm-month : (at year month points suppliers next : ℕ) (bytes : List ℕ) (t : Lists) (out : List ℕ) (from : ℕ) (b : Book) (r : Advanced) → b ≡ freshBook year month points suppliers 0
-    → r ≡ advancedTo Phase.Elements false b 1 next from → Advances (moveOn at start (Month year month points suppliers next) bytes) (r .progress) t out out (r .next) from (r .written)
+pub arm-month : (at year month points suppliers next : ℕ) (bytes : List ℕ) (t : Lists) (out : List ℕ) (from : ℕ) (b : Book) (r : Advanced)
+    → b ≡ freshBook year month points suppliers 0
+    → r ≡ advancedTo Phase.Elements false b 1 next from
+    → Advances (moveOn at start (Month year month points suppliers next) bytes) (r .progress) t out out (r .next) from (r .written)
 unfolding moveOn
 arm-month at year month points suppliers next bytes t out from b r f e =
-    rw (e, f) (record { holds = (refl, refl, no-values year month points suppliers t); text = nothing-written longestText out from; place = refl })
+    rw (e, f) (record {
+      holds = (refl, refl, no-values year month points suppliers t);
+      text = nothing-written longestText out from;
+      place = refl;
+    })
 
 -- an element
-pub arm-element : (at from size next : ℕ) (bytes : List ℕ) (h : Heading) (values : List (List ℕ)) (t : Lists) (out : List ℕ) (place : ℕ) (b : Book) (r : Advanced)
-    → HoldsValues b (t .elementData) (t .prices) h (values ++ (take size (drop from bytes) ∷ [])) → r ≡ advancedTo Phase.Elements false b 1 next place
+pub arm-element : (at from size next : ℕ) (bytes : List ℕ) (h : Heading) (values : List (List ℕ)) (t : Lists) (out : List ℕ) (place : ℕ)
+    (b : Book) (r : Advanced)
+    → HoldsValues b (t .elementData) (t .prices) h (values ++ (take size (drop from bytes) ∷ []))
+    → r ≡ advancedTo Phase.Elements false b 1 next place
     → Advances (moveOn at (elements h values) (Element from size next) bytes) (r .progress) t out out (r .next) place (r .written)
 unfolding moveOn
-arm-element at from size next bytes h values t out place b r v e = rw e (record { holds = (refl, refl, v); text = nothing-written longestText out place; place = refl })
+arm-element at from size next bytes h values t out place b r v e =
+    rw e (record { holds = (refl, refl, v); text = nothing-written longestText out place; place = refl })
 
 -- one move for another
 pub advances-by : {m m′ : Move} {p : Progress} {t : Lists} {out after : List ℕ} {next from written : ℕ} → m ≡ m′
@@ -88,14 +101,16 @@ module _ (b : Book) (t : Lists) (e : Ends) (q : e ≡ endsOf b) (s : Sized t) (g
       → Whole (worldIn (r .book) x) → b .points ≤ settlePoints
       → (out after : List ℕ) (from : ℕ) (a : Advanced) → Written longestText out after from (a .written) (replyText r number records)
       → a ≡ advancedTo Phase.Messages false (r .book) (number + 1) next (a .written)
-      → Advances (moveOn at (messages (frontsWorld b t) number) (Message f next) bytes) (a .progress) (putBack e t x) out after (a .next) from (a .written)
+      → Advances (moveOn at (messages (frontsWorld b t) number) (Message f next) bytes) (a .progress) (putBack e t x) out after
+      (a .next) from (a .written)
   unfolding moveOn
   arm-message at next number bytes lent records long p c k out after from a v z =
       let room : roomIn lent ≡ settleRecords = omega arith in
       let w : frontsWorld (r .book) (putBack e t x) ≡ step (frontsWorld b t) f settleRecords =
       message-world settleRecords (p .world ∙ ap (step (worldIn b (cutTo e t)) f) room) in
       let c′ : Whole (step (frontsWorld b t) f settleRecords) =
-      subst (λ (y : World). Whole y) (p .world ∙ ap (step (worldIn b (cutTo e t)) f) room ∙ ap (λ (y : Ends). step (worldIn b (cutTo y t)) f settleRecords) q) c in
+      subst (λ (y : World). Whole y) (p .world ∙ ap (step (worldIn b (cutTo e t)) f) room
+      ∙ ap (λ (y : Ends). step (worldIn b (cutTo y t)) f settleRecords) q) c in
       let text : replyText r number records ≡ answered (frontsWorld b t) f number =
       reply-text (worldIn b (cutTo e t)) (worldIn (r .book) x) f r lent records long p number
       ∙ ap (λ (y : Ends). answered (worldIn b (cutTo y t)) f number) q in
@@ -128,9 +143,11 @@ wait-move at stage (Message f next) bytes m = never (sym m)
 wait-move at stage End bytes m = never (sym m)
 wait-move at stage Broken bytes m = never (sym m)
 
-pub arm-waits : (at : ℕ) (stage : Stage) (f : Found) (bytes : List ℕ) (p : Progress) (t : Lists) (out : List ℕ) (from : ℕ) (r : Advanced) → isMore f ≡ true → Represents p t stage → r ≡ waitsAt p at from
+pub arm-waits : (at : ℕ) (stage : Stage) (f : Found) (bytes : List ℕ) (p : Progress) (t : Lists) (out : List ℕ) (from : ℕ) (r : Advanced)
+    → isMore f ≡ true → Represents p t stage → r ≡ waitsAt p at from
     → Advances (moveOn at stage f bytes) (r .progress) t out out (r .next) from (r .written)
-arm-waits at stage f bytes p t out from r m h e = rw (wait-move at stage f bytes m, e) (record { holds = h; text = nothing-written longestText out from; place = refl })
+arm-waits at stage f bytes p t out from r m h e =
+    rw (wait-move at stage f bytes m, e) (record { holds = h; text = nothing-written longestText out from; place = refl })
 
 -- ---- the stage, by what may come next
 

@@ -81,7 +81,8 @@ rest-takes Broken h = refl
 -- ---- what the field does
 
 module _ (at : ℕ) (bytes : List ℕ) where
-  pub start-else : (f : Found) → OneOf (1 ∷ 2 ∷ 3 ∷ 4 ∷ 5 ∷ []) (tagOf the-type f) → isMore f ≡ false → moveOn at start f bytes ≡ broken at 1
+  pub start-else : (f : Found) → OneOf (1 ∷ 2 ∷ 3 ∷ 4 ∷ 5 ∷ []) (tagOf the-type f) → isMore f ≡ false
+      → moveOn at start f bytes ≡ broken at 1
   unfolding moveOn isMore
   start-else (Month year month points suppliers next) h m = absurd (miss (1 ∷ 2 ∷ 3 ∷ 4 ∷ 5 ∷ []) 0 tt h)
   start-else (Element from size next) h m = refl
@@ -133,7 +134,8 @@ other-message f phase e h = sym (ap (λ (p : Phase). isOther (taskOf p f)) e) �
 pub record Opens (phase : Phase) (f : Found) (last : Bool) : Type 0 where
   pub phase-is : phase ≡ Phase.Elements
   pub more-not : isMore f ≡ false
-  pub move : (at : ℕ) (g : Heading) (values : List (List ℕ)) (bytes : List ℕ) → moveOn at (elements g values) f bytes ≡ opening at (collected g values) (openedTo last)
+  pub move : (at : ℕ) (g : Heading) (values : List (List ℕ)) (bytes : List ℕ)
+      → moveOn at (elements g values) f bytes ≡ opening at (collected g values) (openedTo last)
 
 other-open : {P : Type 0} (last : Bool) → Task.Other ≡ Task.Open last → P
 unfolding isOther
@@ -151,9 +153,17 @@ opens Phase.Start f last e = other-open last e
 opens Phase.Elements (Month year month points suppliers next) last e = other-open last e
 opens Phase.Elements (Element from size next) last e = other-open last e
 opens Phase.Elements (Message f next) last e =
-    record { phase-is = refl; more-not = refl; move = λ at g values bytes. ap (λ (l : Bool). opening at (collected g values) (openedTo l)) (same-last false last e) }
+    record {
+      phase-is = refl;
+      more-not = refl;
+      move = λ at g values bytes. ap (λ (l : Bool). opening at (collected g values) (openedTo l)) (same-last false last e);
+    }
 opens Phase.Elements End last e =
-    record { phase-is = refl; more-not = refl; move = λ at g values bytes. ap (λ (l : Bool). opening at (collected g values) (openedTo l)) (same-last true last e) }
+    record {
+      phase-is = refl;
+      more-not = refl;
+      move = λ at g values bytes. ap (λ (l : Bool). opening at (collected g values) (openedTo l)) (same-last true last e);
+    }
 opens Phase.Elements More last e = other-open last e
 opens Phase.Elements Broken last e = other-open last e
 opens Phase.Messages (Month year month points suppliers next) last e = other-open last e

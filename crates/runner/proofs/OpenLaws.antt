@@ -14,7 +14,8 @@ use Rattle.calendar.specs.Gregorian.{InRange, daysOfMonth}
 use Rattle.rules.specs.Sizes.{elementSize, hourPlaces, lineSize, mostElements, pricePlaces}
 use Rattle.rules.specs.declared.Book.{Book}
 use Rattle.rules.specs.World.{Opening, World, tableOf, monthDays, monthFirst, lineCount}
-use Rattle.rules.specs.WellFormed.{withinLimits, rowsFit, openingSized, tablesSized, linesSized, readingCount, linePlaces, question2, question3, question4}
+use Rattle.rules.specs.WellFormed.{withinLimits, rowsFit, openingSized, tablesSized, linesSized, readingCount, linePlaces, question2}
+use Rattle.rules.specs.WellFormed.{question3, question4}
 use Rattle.rules.specs.Opening.{openingAnswer, opened}
 use Rattle.rules.specs.Effects.{ask}
 use Rattle.rules.specs.Lent.{Lists, worldIn}
@@ -172,7 +173,8 @@ module _ (b : Book) (t : Lists) (h : Heading) (values : List (List ℕ)) (v : Ho
       (w : Written longestLine out out′ from (r .written) (openingText b question))
       (e : r ≡ advancedTo Phase.Messages (openedOver question last) b 1 at (r .written))
     where
-      opened-holds : (x : World) (l : Bool) → HoldsBook b t′ x → Represents (advancedTo Phase.Messages l b 1 at (r .written) .progress) t′ (openedTo l x)
+      opened-holds : (x : World) (l : Bool) → HoldsBook b t′ x
+          → Represents (advancedTo Phase.Messages l b 1 at (r .written) .progress) t′ (openedTo l x)
       opened-holds x true k = refl
       opened-holds x false k = (refl, refl, k, refl)
 
@@ -187,7 +189,8 @@ module _ (b : Book) (t : Lists) (h : Heading) (values : List (List ℕ)) (v : Ho
           let same : frontsWorld b t′ ≡ opened (lentFor (frontsOpening b t)) =
           ap (λ (x : Book). frontsWorld x t′) (sym fresh-again) ∙ opened-parts b t s k t′ (c z) in
           rw (← opening-in at (openedTo last), e, z, k) (record {
-            holds = opened-holds (opened (lentFor (frontsOpening b t))) last (record { world = sym same; whole = p .whole; points = p .points });
+            holds = opened-holds (opened (lentFor (frontsOpening b t))) last
+                (record { world = sym same; whole = p .whole; points = p .points });
             text = loosened (omega arith) (rw z at w);
             place = refl;
           })

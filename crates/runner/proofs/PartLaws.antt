@@ -130,7 +130,8 @@ ends-stay a b o x f room e =
     (ap (λ (y : Opening). y .suppliers) h) (ap (λ (y : Opening). y .elements) h)
 
 pub points-stay : (a b : Book) (o x : Lists) (f : Fields) (room : ℕ) → worldIn a x ≡ step (worldIn b o) f room → a .points ≡ b .points
-points-stay a b o x f room e = ap (λ (w : World). w .opening .points) e ∙ ap (λ (y : Opening). y .points) (step-opening (worldIn b o) f room)
+points-stay a b o x f room e = ap (λ (w : World). w .opening .points) e
+    ∙ ap (λ (y : Opening). y .points) (step-opening (worldIn b o) f room)
 
 -- ---- question 4 of the parts
 

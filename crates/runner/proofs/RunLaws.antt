@@ -20,7 +20,8 @@ use Rattle.file.specs.Program.{settleAnswer, collected, settled}
 use Rattle.file.proofs.FieldLaws.{whole-rest, front-decides, Undecided, inside-in, inside-at}
 use Rattle.runner.specs.declared.Progress.{Progress}
 use Rattle.runner.specs.declared.Advanced.{Advanced}
-use Rattle.runner.specs.Stages.{Stage, start, elements, messages, over, phaseOf, printed, Move, broken, openedTo, opening, moveOn, foundAt, isMore}
+use Rattle.runner.specs.Stages.{Stage, start, elements, messages, over, phaseOf, printed, Move, broken, openedTo, opening, moveOn}
+use Rattle.runner.specs.Stages.{foundAt, isMore}
 use Rattle.rules.specs.Lent.{Lists}
 use Rattle.runner.specs.Parts.{Sized}
 use Rattle.runner.specs.Texts.{longestText, lastNumber}
@@ -38,14 +39,16 @@ named-not-more bytes = cases (eqb (tagOf bytes) 1) (λ t. rw t) (λ t. rw t (cas
 whole-not-more : (bytes : List ℕ) (phase : Phase) → isMore (fieldOf bytes phase) ≡ false
 unfolding isMore fieldOf
 whole-not-more [] phase = refl
-whole-not-more (b ∷ bytes) phase = cases (wholeField (b ∷ bytes) && rightField phase (b ∷ bytes)) (λ t. rw t (named-not-more (b ∷ bytes))) (λ t. rw t)
+whole-not-more (b ∷ bytes) phase = cases (wholeField (b ∷ bytes) && rightField phase (b ∷ bytes)) (λ t. rw t (named-not-more (b ∷ bytes)))
+    (λ t. rw t)
 
 more-short : (bytes : List ℕ) (phase : Phase) (ended : Bool) → isMore (fieldIn bytes phase ended) ≡ true
     → (ended ≡ false) × (length bytes < longestField)
 more-short bytes phase true m = never (sym m ∙ ap isMore (whole-rest bytes phase) ∙ whole-not-more bytes phase)
 more-short bytes phase false m = ⊎-elim
     (λ (u : Undecided bytes (fieldIn bytes phase false)). (refl, u .short))
-    (λ (g : (rest : List ℕ) → fieldOf (bytes ++ rest) phase ≡ fieldIn bytes phase false). never (sym m ∙ ap isMore (sym (g [])) ∙ whole-not-more (bytes ++ []) phase))
+    (λ (g : (rest : List ℕ) → fieldOf (bytes ++ rest) phase ≡ fieldIn bytes phase false). never
+    (sym m ∙ ap isMore (sym (g [])) ∙ whole-not-more (bytes ++ []) phase))
     (front-decides bytes phase)
 
 from-more : (at : ℕ) (f : Found) → isMore (fieldFrom at f) ≡ isMore f
@@ -75,7 +78,12 @@ can-go-on p waits left h =
     let h1 = both (not waits) _ h in
     let h2 = both (not (p .over)) _ (h1 .1) in
     let h3 = both (ltb (p .number) lastNumber) (leb longestText left) (h2 .1) in
-    record { waits-not = not-true waits (h1 .0); over-not = not-true (p .over) (h2 .0); number = ltb-true _ _ (h3 .0); room = leb-true _ _ (h3 .1) }
+    record {
+      waits-not = not-true waits (h1 .0);
+      over-not = not-true (p .over) (h2 .0);
+      number = ltb-true _ _ (h3 .0);
+      room = leb-true _ _ (h3 .1);
+    }
 
 -- ---- how much is left to do
 
@@ -108,9 +116,11 @@ unfolding weightOf
 opened-falls at end w true = omega arith
 opened-falls at end w false = omega arith
 
-opening-falls : (at end : ℕ) (o : Opening) (last : Bool) → weightOf (opening at o (openedTo last) .stage) (end - opening at o (openedTo last) .next) < suc (2 * (end - at) + 1)
+opening-falls : (at end : ℕ) (o : Opening) (last : Bool)
+    → weightOf (opening at o (openedTo last) .stage) (end - opening at o (openedTo last) .next) < suc (2 * (end - at) + 1)
 unfolding opening broken
-opening-falls at end o last = cases (eqb (settleAnswer o) 0) (λ t. rw t (opened-falls at end _ last)) (λ t. rw t (unfold weightOf in omega arith))
+opening-falls at end o last = cases (eqb (settleAnswer o) 0) (λ t. rw t (opened-falls at end _ last))
+    (λ t. rw t (unfold weightOf in omega arith))
 
 falls : (at end : ℕ) (stage : Stage) (f : Found) (s : List ℕ) → Inside at end f → isMore f ≡ false → 0 < weightOf stage (end - at)
     → weightOf (moveOn at stage f s .stage) (end - moveOn at stage f s .next) < weightOf stage (end - at)
@@ -145,7 +155,8 @@ holds-phase p t (messages w n) o h = h .1
 holds-phase p t over o h = never (sym h ∙ o)
 
 -- the run so far
-pub record Running (ended : Bool) (s : List ℕ) (at : ℕ) (p₀ : Progress) (t₀ : Lists) (out₀ : List ℕ) (t : Lists) (out : List ℕ) (p : Progress) (place written : ℕ) (waits : Bool) : Type 0 where
+pub record Running (ended : Bool) (s : List ℕ) (at : ℕ) (p₀ : Progress) (t₀ : Lists) (out₀ : List ℕ) (t : Lists) (out : List ℕ)
+    (p : Progress) (place written : ℕ) (waits : Bool) : Type 0 where
   pub inside : place ≤ length s
   pub long : length out ≡ length out₀
   pub text : written ≤ length out₀
@@ -154,7 +165,8 @@ pub record Running (ended : Bool) (s : List ℕ) (at : ℕ) (p₀ : Progress) (t
   pub few : waits ≡ true → (ended ≡ false) × (length s - place < longestField)
   pub reached : (stage : Stage) → Represents p₀ t₀ stage → Reached ended stage (drop at s) (take written out) p t (drop place s)
 
-pub begins : (ended : Bool) (s : List ℕ) (at : ℕ) (p : Progress) (t : Lists) (out : List ℕ) → at ≤ length s → Sized t → Running ended s at p t out t out p at 0 false
+pub begins : (ended : Bool) (s : List ℕ) (at : ℕ) (p : Progress) (t : Lists) (out : List ℕ) → at ≤ length s → Sized t
+    → Running ended s at p t out t out p at 0 false
 begins ended s at p t out l z =
     record {
       inside = l;
@@ -166,7 +178,8 @@ begins ended s at p t out l z =
       reached = λ stage h. record { stage = stage; holds = h; same = λ rest e. refl };
     }
 
-module _ (ended : Bool) (s : List ℕ) (at : ℕ) (p₀ : Progress) (t₀ : Lists) (out₀ : List ℕ) (t : Lists) (out : List ℕ) (p : Progress) (place written : ℕ) (waits : Bool)
+module _ (ended : Bool) (s : List ℕ) (at : ℕ) (p₀ : Progress) (t₀ : Lists) (out₀ : List ℕ) (t : Lists) (out : List ℕ) (p : Progress)
+    (place written : ℕ) (waits : Bool)
     (u : Running ended s at p₀ t₀ out₀ t out p place written waits) (b : Stands p₀ t₀)
   where
     -- the numbers and the tables stand for a stage
@@ -177,7 +190,8 @@ module _ (ended : Bool) (s : List ℕ) (at : ℕ) (p₀ : Progress) (t₀ : List
     found = foundAt s place (p .phase) ended
 
     module _ (g : CanGoOn p waits (length out - written)) (t′ : Lists) (after : List ℕ) (a : Advanced)
-        (f : (stage : Stage) → Represents p t stage → Advances (moveOn place stage found s) (a .progress) t′ out after (a .next) written (a .written))
+        (f : (stage : Stage) → Represents p t stage
+        → Advances (moveOn place stage found s) (a .progress) t′ out after (a .next) written (a .written))
         (m : a .more ≡ isMore found)
       where
         turn : Advances (moveOn place (stands .stage) found s) (a .progress) t′ out after (a .next) written (a .written)
@@ -204,24 +218,43 @@ module _ (ended : Bool) (s : List ℕ) (at : ℕ) (p₀ : Progress) (t₀ : List
         next-behind =
             let v = turn .text in
             let text = moveOn place (stands .stage) found s .text in
-            rw (v .is, placed-behind out written text (a .written) (omega (arith, u .long, u .text)) (v .end), v .end, ← drop-drop (length text) written out, u .behind, drop-drop)
+            rw (
+              v .is,
+              placed-behind out written text (a .written) (omega (arith, u .long, u .text)) (v .end),
+              v .end,
+              ← drop-drop (length text) written out,
+              u .behind,
+              drop-drop,
+            )
 
-        next-reached : (stage : Stage) → Represents p₀ t₀ stage → Reached ended stage (drop at s) (take (a .written) after) (a .progress) t′ (drop (a .next) s)
+        next-reached : (stage : Stage) → Represents p₀ t₀ stage
+            → Reached ended stage (drop at s) (take (a .written) after) (a .progress) t′ (drop (a .next) s)
         next-reached stage h =
             let d = u .reached stage h in
             let v = f (d .stage) (d .holds) in
             let e : p .phase ≡ phaseOf (d .stage) = holds-phase p t (d .stage) (g .over-not) (d .holds) in
             let move = moveOn place (d .stage) found s in
-            let text : take (a .written) after ≡ take written out ++ move .text = rw (v .text .is) (placed-front out written (move .text) (a .written) (omega (arith, u .long, u .text)) (v .text .end)) in
+            let text : take (a .written) after ≡ take written out ++ move .text =
+            rw (v .text .is) (placed-front out written (move .text) (a .written) (omega (arith, u .long, u .text)) (v .text .end)) in
             record {
               stage = move .stage;
               holds = v .holds;
-              same = λ rest r. d .same rest r ∙ ap (λ (x : List ℕ). take written out ++ x) (pieces (d .stage) s rest place ended r move (ap (λ x. moveOn place (d .stage) (foundAt s place x ended) s) e))
+              same = λ rest r. d .same rest r ∙ ap (λ (x : List ℕ). take written out ++ x)
+                  (pieces (d .stage) s rest place ended r move (ap (λ x. moveOn place (d .stage) (foundAt s place x ended) s) e))
                   ∙ rw (v .place, text) (sym (append-assoc (take written out) (move .text) _));
             }
 
-        pub turns : Sized t′ → length after ≡ length out → Running ended s at p₀ t₀ out₀ t′ after (a .progress) (a .next) (a .written) (a .more)
-        turns z l = record { inside = next-within; long = l ∙ u .long; text = text-within; behind = next-behind; sized = z; few = next-few; reached = next-reached }
+        pub turns : Sized t′ → length after ≡ length out
+            → Running ended s at p₀ t₀ out₀ t′ after (a .progress) (a .next) (a .written) (a .more)
+        turns z l = record {
+          inside = next-within;
+          long = l ∙ u .long;
+          text = text-within;
+          behind = next-behind;
+          sized = z;
+          few = next-few;
+          reached = next-reached;
+        }
 
         pub less : weight (a .more) (a .progress) (length s - a .next) < weight waits p (length s - place)
         unfolding weight
@@ -229,16 +262,21 @@ module _ (ended : Bool) (s : List ℕ) (at : ℕ) (p₀ : Progress) (t₀ : List
             (λ k. rw (m, k, g .waits-not, g .over-not) (omega arith))
             (λ k.
             let i = inside-at s place (p .phase) ended (u .inside) in
-            let w : weight false p (length s - place) ≡ weightOf (stands .stage) (length s - place) = holds-weight p t (stands .stage) (length s - place) (stands .holds) in
-            let w′ = holds-weight (a .progress) t′ (moveOn place (stands .stage) found s .stage) (length s - moveOn place (stands .stage) found s .next) (turn .holds) in
+            let w : weight false p (length s - place) ≡ weightOf (stands .stage) (length s - place) =
+            holds-weight p t (stands .stage) (length s - place) (stands .holds) in
+            let w′ = holds-weight (a .progress) t′ (moveOn place (stands .stage) found s .stage)
+            (length s - moveOn place (stands .stage) found s .next) (turn .holds) in
             let pos : 0 < weight false p (length s - place) = rw (g .over-not) (omega arith) in
             rw (m, k, g .waits-not, turn .place) (omega (arith, w, w′, falls place (length s) (stands .stage) found s i k (rw w at pos))))
 
 -- ---- the end
 
-pub ends : (ended : Bool) (s : List ℕ) (at : ℕ) (p₀ : Progress) (t₀ : Lists) (out₀ : List ℕ) (t : Lists) (out : List ℕ) (p : Progress) (place written : ℕ) (waits : Bool)
-    → Running ended s at p₀ t₀ out₀ t out p place written waits → canGoOn p waits (length out - written) ≡ false → Stopped s ended out₀ out (record { progress = p; next = place; written = written; waits = waits })
-ends ended s at p₀ t₀ out₀ t out p place written waits u g = record { place = u .inside; text = omega (arith, u .long, u .text); behind = u .behind; waits = u .few; stops = g }
+pub ends : (ended : Bool) (s : List ℕ) (at : ℕ) (p₀ : Progress) (t₀ : Lists) (out₀ : List ℕ) (t : Lists) (out : List ℕ) (p : Progress)
+    (place written : ℕ) (waits : Bool)
+    → Running ended s at p₀ t₀ out₀ t out p place written waits → canGoOn p waits (length out - written) ≡ false
+    → Stopped s ended out₀ out (record { progress = p; next = place; written = written; waits = waits })
+ends ended s at p₀ t₀ out₀ t out p place written waits u g =
+    record { place = u .inside; text = omega (arith, u .long, u .text); behind = u .behind; waits = u .few; stops = g }
 
 -- ---- for callers
 
@@ -250,17 +288,21 @@ over-silent p t (messages w n) bytes h o = never (sym o ∙ h .0)
 over-silent p t over bytes h o = refl
 
 -- a run that is over has printed all
-pub run-over : (ended : Bool) (stage : Stage) (front text : List ℕ) (p : Progress) (t : Lists) (left : List ℕ) → Reached ended stage front text p t left → p .over ≡ true
+pub run-over : (ended : Bool) (stage : Stage) (front text : List ℕ) (p : Progress) (t : Lists) (left : List ℕ)
+    → Reached ended stage front text p t left → p .over ≡ true
     → (rest : List ℕ) → (ended ≡ true → rest ≡ []) → printed stage (front ++ rest) ≡ text
-run-over ended stage front text p t left r o rest e = r .same rest e ∙ rw (over-silent p t (r .stage) (left ++ rest) (r .holds) o) (append-nil text)
+run-over ended stage front text p t left r o rest e = r .same rest e
+    ∙ rw (over-silent p t (r .stage) (left ++ rest) (r .holds) o) (append-nil text)
 
 -- the whole input from the beginning, over in one call: the text is the program's
-pub whole-run : (s text : List ℕ) (p : Progress) (t : Lists) (left : List ℕ) → Reached true start s text p t left → p .over ≡ true → text ≡ settled s
+pub whole-run : (s text : List ℕ) (p : Progress) (t : Lists) (left : List ℕ) → Reached true start s text p t left → p .over ≡ true
+    → text ≡ settled s
 unfolding printed
 whole-run s text p t left r o = sym (run-over true start s text p t left r o [] (λ e. refl)) ∙ ap settled (append-nil s)
 
 -- a run that goes on over the bytes that were left, with more behind them; with none where the input had ended and the output was full
-pub runs-joined : (first ended : Bool) (stage : Stage) (front more text text′ : List ℕ) (p p′ : Progress) (t t′ : Lists) (left left′ : List ℕ)
+pub runs-joined : (first ended : Bool) (stage : Stage) (front more text text′ : List ℕ) (p p′ : Progress) (t t′ : Lists)
+    (left left′ : List ℕ)
     → (first ≡ true → (ended ≡ true) × (more ≡ [])) → (r : Reached first stage front text p t left)
     → Reached ended (r .stage) (left ++ more) text′ p′ t′ left′ → Reached ended stage (front ++ more) (text ++ text′) p′ t′ left′
 runs-joined first ended stage front more text text′ p p′ t t′ left left′ h r q =

@@ -15,10 +15,12 @@ use Rattle.file.specs.declared.fields.Phase.{Phase}
 use Rattle.file.specs.declared.fields.Found.{Found}
 use Rattle.file.specs.declared.fields.Found.the-variants.{Month, Element, Message, End, More, Broken}
 use Rattle.file.specs.Field.{fieldOf, fieldIn, fieldFrom, Inside}
-use Rattle.file.specs.Program.{endedBy, answered, onMessage, messagesFrom, Heading, collected, settleAnswer, openThen, onElement, elementsFrom, onMonth, settled}
+use Rattle.file.specs.Program.{endedBy, answered, onMessage, messagesFrom, Heading, collected, settleAnswer, openThen, onElement}
+use Rattle.file.specs.Program.{elementsFrom, onMonth, settled}
 use Rattle.file.proofs.FieldLaws.{whole-rest, front-decides, inside-in, Undecided}
 use Rattle.file.proofs.ProgramLaws.{messages-enough, elements-enough}
-use Rattle.runner.specs.Stages.{Stage, start, elements, messages, over, phaseOf, printed, Move, broken, lineOf, openedTo, opening, moveOn, isMore}
+use Rattle.runner.specs.Stages.{Stage, start, elements, messages, over, phaseOf, printed, Move, broken, lineOf, openedTo, opening}
+use Rattle.runner.specs.Stages.{moveOn, isMore}
 
 -- ---- one field, where it is the one at the front of all the bytes that are left
 
@@ -30,11 +32,15 @@ one-more n = omega arith
 
 elements-behind : (bytes : List ℕ) (next : ℕ) (h : Heading) (values : List (List ℕ)) → 0 < next → next ≤ length bytes
     → elementsFrom (length bytes) (drop next bytes) h values ≡ elementsFrom (suc (length (drop next bytes))) (drop next bytes) h values
-elements-behind bytes next h values a b = elements-enough (length bytes) (suc (length (drop next bytes))) (drop next bytes) h values (shorter bytes next a b) (one-more (length (drop next bytes)))
+elements-behind bytes next h values a b =
+    elements-enough (length bytes) (suc (length (drop next bytes))) (drop next bytes) h values (shorter bytes next a b)
+    (one-more (length (drop next bytes)))
 
 messages-behind : (bytes : List ℕ) (next : ℕ) (w : World) (number : ℕ) → 0 < next → next ≤ length bytes
     → messagesFrom (length bytes) (drop next bytes) w number ≡ messagesFrom (suc (length (drop next bytes))) (drop next bytes) w number
-messages-behind bytes next w number a b = messages-enough (length bytes) (suc (length (drop next bytes))) (drop next bytes) w number (shorter bytes next a b) (one-more (length (drop next bytes)))
+messages-behind bytes next w number a b =
+    messages-enough (length bytes) (suc (length (drop next bytes))) (drop next bytes) w number (shorter bytes next a b)
+    (one-more (length (drop next bytes)))
 
 pub never : {P : Type 0} → _≡_ {A = Bool} true false → P
 never z = let y : _≡_ {A = ℕ} 0 1 = cc in absurd (omega arith)
@@ -43,13 +49,17 @@ behind : (text : List ℕ) → text ≡ text ++ []
 behind text = sym (append-nil text)
 
 -- the opening, and what is printed behind it
-opens : (o : Opening) (bytes : List ℕ) (more : World → Stage) → openThen o (λ w. printed (more w) bytes) ≡ opening 0 o more .text ++ printed (opening 0 o more .stage) (drop (opening 0 o more .next) bytes)
+opens : (o : Opening) (bytes : List ℕ) (more : World → Stage)
+    → openThen o (λ w. printed (more w) bytes) ≡ opening 0 o more .text ++ printed (opening 0 o more .stage)
+    (drop (opening 0 o more .next) bytes)
 unfolding openThen opening lineOf broken printed
 opens o bytes more = cases (eqb (settleAnswer o) 0) (λ t. rw t) (λ t. rw t (behind (endedBy (settleAnswer o))))
 
 module _ (bytes : List ℕ) where
-  pub onward : (stage : Stage) (found : Found) → isMore found ≡ false → Inside 0 (length bytes) found → fieldOf bytes (phaseOf stage) ≡ found
-      → printed stage bytes ≡ moveOn 0 stage found bytes .text ++ printed (moveOn 0 stage found bytes .stage) (drop (moveOn 0 stage found bytes .next) bytes)
+  pub onward : (stage : Stage) (found : Found) → isMore found ≡ false → Inside 0 (length bytes) found
+      → fieldOf bytes (phaseOf stage) ≡ found
+      → printed stage bytes ≡ moveOn 0 stage found bytes .text ++ printed (moveOn 0 stage found bytes .stage)
+      (drop (moveOn 0 stage found bytes .next) bytes)
   unfolding phaseOf printed moveOn broken isMore settled onMonth elementsFrom onElement messagesFrom onMessage
   onward start (Month year month points suppliers next) m l e = rw e (elements-behind bytes next _ [] (l .0) (l .1))
   onward start (Element from size next) m l e = rw e (behind (endedBy 1))
@@ -65,7 +75,8 @@ module _ (bytes : List ℕ) where
   onward (elements h values) Broken m l e = rw e (behind (endedBy 1))
   onward (messages w number) (Month year month points suppliers next) m l e = rw e (behind (endedBy 1))
   onward (messages w number) (Element from size next) m l e = rw e (behind (endedBy 1))
-  onward (messages w number) (Message f next) m l e = rw e (ap (λ (t : List ℕ). answered w f number ++ t) (messages-behind bytes next _ _ (l .0) (l .1)))
+  onward (messages w number) (Message f next) m l e =
+      rw e (ap (λ (t : List ℕ). answered w f number ++ t) (messages-behind bytes next _ _ (l .0) (l .1)))
   onward (messages w number) End m l e = rw e
   onward (messages w number) More m l e = never m
   onward (messages w number) Broken m l e = rw e (behind (endedBy 1))
@@ -74,7 +85,8 @@ module _ (bytes : List ℕ) where
 -- ---- the bytes in hand, whatever follows them
 
 -- an element's value lies within the bytes in hand
-same-move : (stage : Stage) (found : Found) (front rest : List ℕ) → Inside 0 (length front) found → moveOn 0 stage found (front ++ rest) ≡ moveOn 0 stage found front
+same-move : (stage : Stage) (found : Found) (front rest : List ℕ) → Inside 0 (length front) found
+    → moveOn 0 stage found (front ++ rest) ≡ moveOn 0 stage found front
 unfolding moveOn
 same-move (elements h values) (Element from size next) front rest l =
     let a : from ≤ length front = omega arith in
@@ -104,7 +116,8 @@ unfolding opening broken
 opening-next o more = cases (eqb (settleAnswer o) 0) (λ t. rw t) (λ t. rw t)
 
 -- the next field begins within the bytes in hand, or at their end
-pub next-inside : (stage : Stage) (found : Found) (front : List ℕ) → Inside 0 (length front) found → moveOn 0 stage found front .next ≤ length front
+pub next-inside : (stage : Stage) (found : Found) (front : List ℕ) → Inside 0 (length front) found
+    → moveOn 0 stage found front .next ≤ length front
 unfolding moveOn broken
 next-inside start (Month year month points suppliers next) front l = l .1
 next-inside start (Element from size next) front l = omega arith
@@ -128,7 +141,8 @@ next-inside over found front l = omega arith
 
 -- where the bytes in hand end within the field, all is still to come
 waits : (stage : Stage) (found : Found) (front rest : List ℕ) → isMore found ≡ true
-    → printed stage (front ++ rest) ≡ moveOn 0 stage found front .text ++ printed (moveOn 0 stage found front .stage) (drop (moveOn 0 stage found front .next) front ++ rest)
+    → printed stage (front ++ rest) ≡ moveOn 0 stage found front .text ++ printed (moveOn 0 stage found front .stage)
+    (drop (moveOn 0 stage found front .next) front ++ rest)
 unfolding isMore moveOn
 waits start More front rest m = refl
 waits (elements h values) More front rest m = refl
@@ -148,7 +162,8 @@ wider End n m h l = tt
 wider More n m h l = tt
 wider Broken n m h l = tt
 
-decided : (front rest : List ℕ) (phase : Phase) (ended : Bool) → (ended ≡ true → rest ≡ []) → isMore (fieldIn front phase ended) ≡ false → fieldOf (front ++ rest) phase ≡ fieldIn front phase ended
+decided : (front rest : List ℕ) (phase : Phase) (ended : Bool) → (ended ≡ true → rest ≡ []) → isMore (fieldIn front phase ended) ≡ false
+    → fieldOf (front ++ rest) phase ≡ fieldIn front phase ended
 unfolding isMore
 decided front rest phase true h m = rw (h refl, append-nil front) (sym (whole-rest front phase))
 decided front rest phase false h m = ⊎-elim
@@ -165,7 +180,8 @@ opening-from : (at : ℕ) (o : Opening) (more : World → Stage) → opening at 
 unfolding opening broken
 opening-from at o more = let z : at ≡ at + 0 = omega arith in cases (eqb (settleAnswer o) 0) (λ t. rw (t, ← z)) (λ t. rw (t, ← z))
 
-pub move-from : (at : ℕ) (stage : Stage) (found : Found) (s : List ℕ) → moveOn at stage (fieldFrom at found) s ≡ movedBy at (moveOn 0 stage found (drop at s))
+pub move-from : (at : ℕ) (stage : Stage) (found : Found) (s : List ℕ)
+    → moveOn at stage (fieldFrom at found) s ≡ movedBy at (moveOn 0 stage found (drop at s))
 unfolding moveOn fieldFrom broken
 move-from at start (Month year month points suppliers next) s = refl
 move-from at start (Element from size next) s = let z : at ≡ at + 0 = omega arith in rw (← z)
@@ -187,23 +203,31 @@ move-from at (messages w number) More s = let z : at ≡ at + 0 = omega arith in
 move-from at (messages w number) Broken s = let z : at ≡ at + 0 = omega arith in rw (← z)
 move-from at over found s = let z : at ≡ at + 0 = omega arith in rw (← z)
 
-front-moves : (stage : Stage) (front rest : List ℕ) (ended : Bool) → (ended ≡ true → rest ≡ []) → (found : Found) → found ≡ fieldIn front (phaseOf stage) ended
-    → printed stage (front ++ rest) ≡ moveOn 0 stage found front .text ++ printed (moveOn 0 stage found front .stage) (drop (moveOn 0 stage found front .next) front ++ rest)
+front-moves : (stage : Stage) (front rest : List ℕ) (ended : Bool) → (ended ≡ true → rest ≡ []) → (found : Found)
+    → found ≡ fieldIn front (phaseOf stage) ended
+    → printed stage (front ++ rest) ≡ moveOn 0 stage found front .text ++ printed (moveOn 0 stage found front .stage)
+    (drop (moveOn 0 stage found front .next) front ++ rest)
 front-moves stage front rest ended h found e = cases (isMore found)
     (λ m. waits stage found front rest m)
     (λ m.
     let l : Inside 0 (length front) found = rw e (inside-in front (phaseOf stage) ended) in
     let k : length front ≤ length (front ++ rest) = rw length-append (omega arith) in
     let d : fieldOf (front ++ rest) (phaseOf stage) ≡ found = decided front rest (phaseOf stage) ended h (ap isMore (sym e) ∙ m) ∙ sym e in
-    rw (← drop-append-le (moveOn 0 stage found front .next) front rest (next-inside stage found front l), ← same-move stage found front rest l) (onward (front ++ rest) stage found m (wider found _ _ k l) d))
+    rw (
+      ← drop-append-le (moveOn 0 stage found front .next) front rest (next-inside stage found front l),
+      ← same-move stage found front rest l,
+    ) (onward (front ++ rest) stage found m (wider found _ _ k l) d))
 
 -- the step of a run over a whole input
 pub whole : (stage : Stage) (bytes : List ℕ) (found : Found) → found ≡ fieldOf bytes (phaseOf stage)
-    → printed stage bytes ≡ moveOn 0 stage found bytes .text ++ printed (moveOn 0 stage found bytes .stage) (drop (moveOn 0 stage found bytes .next) bytes)
-whole stage bytes found e = rw (append-nil bytes, append-nil (drop (moveOn 0 stage found bytes .next) bytes)) at (front-moves stage bytes [] true (λ z. refl) found (e ∙ sym (whole-rest bytes (phaseOf stage))))
+    → printed stage bytes ≡ moveOn 0 stage found bytes .text ++ printed (moveOn 0 stage found bytes .stage)
+    (drop (moveOn 0 stage found bytes .next) bytes)
+whole stage bytes found e = rw (append-nil bytes, append-nil (drop (moveOn 0 stage found bytes .next) bytes)) at
+    (front-moves stage bytes [] true (λ z. refl) found (e ∙ sym (whole-rest bytes (phaseOf stage))))
 
 -- the step of a run over pieces, from a place of the bytes in hand on
-pub pieces : (stage : Stage) (s rest : List ℕ) (at : ℕ) (ended : Bool) → (ended ≡ true → rest ≡ []) → (m : Move) → m ≡ moveOn at stage (fieldFrom at (fieldIn (drop at s) (phaseOf stage) ended)) s
+pub pieces : (stage : Stage) (s rest : List ℕ) (at : ℕ) (ended : Bool) → (ended ≡ true → rest ≡ []) → (m : Move)
+    → m ≡ moveOn at stage (fieldFrom at (fieldIn (drop at s) (phaseOf stage) ended)) s
     → printed stage (drop at s ++ rest) ≡ m .text ++ printed (m .stage) (drop (m .next) s ++ rest)
 pieces stage s rest at ended h m e =
     let found = fieldIn (drop at s) (phaseOf stage) ended in

@@ -52,7 +52,8 @@ module _ (numbers : List ℤ) where
   unfolding recordLines listTo
   no-lines out from = nothing-written 0 out from
 
-  pub line-more : (i : ℕ) (a b c : List ℕ) (from at next : ℕ) → Written (i * longestLine) a b from at (recordLines (listTo (recordAt numbers) i))
+  pub line-more : (i : ℕ) (a b c : List ℕ) (from at next : ℕ)
+      → Written (i * longestLine) a b from at (recordLines (listTo (recordAt numbers) i))
       → (r : Record) → r ≡ recordAt numbers i → Written longestLine b c at next (recordLine r) → from + i * longestLine ≤ length a
       → Written ((i + 1) * longestLine) a c from next (recordLines (listTo (recordAt numbers) (i + 1)))
   unfolding listTo

@@ -39,7 +39,8 @@ described-more (v ∷ values) value =
 prices-more : (values : List (List ℕ)) (value : List ℕ) → pricesAll (values ++ (value ∷ [])) ≡ pricesAll values ++ pricesIn value
 unfolding pricesAll
 prices-more [] value = append-nil (pricesIn value)
-prices-more (v ∷ values) value = ap (λ (l : List ℤ). pricesIn v ++ l) (prices-more values value) ∙ sym (append-assoc (pricesIn v) (pricesAll values) (pricesIn value))
+prices-more (v ∷ values) value = ap (λ (l : List ℤ). pricesIn v ++ l) (prices-more values value)
+    ∙ sym (append-assoc (pricesIn v) (pricesAll values) (pricesIn value))
 
 length-more : (values : List (List ℕ)) (value : List ℕ) → length (values ++ (value ∷ [])) ≡ length values + 1
 length-more values value = length-append values (value ∷ [])
@@ -51,7 +52,8 @@ prices-long value = length-listTo (priceAt value) pricePlaces
 counted-more : (n : ℕ) → min (mostElements + 1) (min (mostElements + 1) n + 1) ≡ min (mostElements + 1) (n + 1)
 counted-more n = omega arith
 
-module _ (b : Book) (ds : List ℕ) (ps : List ℤ) (h : Heading) (values : List (List ℕ)) (v : HoldsValues b ds ps h values) (value : List ℕ) (r : Book) (c : r ≡ counted b) where
+module _ (b : Book) (ds : List ℕ) (ps : List ℤ) (h : Heading) (values : List (List ℕ)) (v : HoldsValues b ds ps h values) (value : List ℕ)
+    (r : Book) (c : r ≡ counted b) where
   book-more : r ≡ freshBook (h .year) (h .month) (h .points) (h .suppliers) (min (mostElements + 1) (length (values ++ (value ∷ []))))
   book-more = c ∙ rw (v .book, length-more values value, counted-more (length values))
 

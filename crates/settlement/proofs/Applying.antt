@@ -123,7 +123,8 @@ module _ (b : Book) (o : Lists) (body : Body) (qs vs : List ℤ) (p : Rules (ope
   lines-moved = sym (moved-added (openingIn b o) (o .lines) t v qs vs (p .quantity) (p .amount))
 
   -- the code's test is question 17
-  pub fits-is : (r : Bool) → r ≡ (rowsFit v && allTo (λ k. lineRight after-lines (k * lineSize)) (linesIn b)) → question17 (worldIn b o) body ≡ r
+  pub fits-is : (r : Bool) → r ≡ (rowsFit v && allTo (λ k. lineRight after-lines (k * lineSize)) (linesIn b))
+      → question17 (worldIn b o) body ≡ r
   unfolding question17 tablesAfter linesAfter lineCount
   fits-is r e = ap (λ x. rowsFit v && x) (fit-is (openingIn b o) (o .lines) t v qs vs (p .quantity) (p .amount)) ∙ sym e
 

@@ -29,7 +29,8 @@ use Rattle.settlement.specs.Replies.{Applied}
 use Rattle.settlement.proofs.Applying.{Rules, fits-is, applied, applied-not}
 
 module _ (o : Opening) (t : Tables) (b : Body) (who : ℕ) where
-  own-rules : (m : Measure) (cs : List ℤ) → Reread o t b who m cs → ByRules o t (told o t b) m (ownChanges (o .suppliers) (o .elements) who cs)
+  own-rules : (m : Measure) (cs : List ℤ) → Reread o t b who m cs
+      → ByRules o t (told o t b) m (ownChanges (o .suppliers) (o .elements) who cs)
   unfolding ownChanges ownAt lineCount supplierOf elementOf
   own-rules m cs r =
       record {

@@ -24,7 +24,8 @@ use Rattle.rules.specs.World.{World, factsOf, holderOn, stateOn, energyOf}
 use Rattle.rules.specs.WellFormed.{rowsFit, withinLimits, question2}
 use Rattle.rules.specs.Messages.{understood, bodyIn}
 use Rattle.rules.specs.Sizes.{lastRound}
-use Rattle.rules.specs.Effects.{told, withBlocks, isRound, writesRow, written, records, tablesAfter, linesAfter, posted, ask, question17, question18, answerTo, answer, accepted, stepBy, step, writtenBy, recordsOf}
+use Rattle.rules.specs.Effects.{told, withBlocks, isRound, writesRow, written, records, tablesAfter, linesAfter, posted, ask, question17}
+use Rattle.rules.specs.Effects.{question18, answerTo, answer, accepted, stepBy, step, writtenBy, recordsOf}
 use Rattle.rules.specs.Lent.{Lists, worldIn, openingIn, tablesIn, lendMoney, lendBlocks}
 use Rattle.rules.specs.Whole.{Whole}
 use Rattle.rules.specs.Ready.{Ready}
@@ -97,7 +98,8 @@ module _ (w : World) (c : Whole w) (f : Fields) (room : ℕ) where
     answer-some = asked-whole ∙ ap (λ x. answerTo w x room) u ∙ answer-decided w m room
 
     -- questions 7 to 16
-    pub answer-refused : decided (w .opening) (w .position .tables) m 0 ≢ 0 → answer w f room ≡ decided (w .opening) (w .position .tables) m 0
+    pub answer-refused : decided (w .opening) (w .position .tables) m 0 ≢ 0
+        → answer w f room ≡ decided (w .opening) (w .position .tables) m 0
     answer-refused h = answer-some ∙ decided-refused (w .opening) (w .position .tables) m h rest
 
     module _ (p : decided (w .opening) (w .position .tables) m 0 ≡ 0) where
@@ -168,7 +170,8 @@ round-is Round h = refl
 
 -- ---- messages that change no fact: question 17 passes, since tables and lines fit as before
 
-module _ (w : World) (c : Whole w) (b : Body) (same : factsOf (w .opening) (told (w .opening) (w .position .tables) b) ≡ factsOf (w .opening) (w .position .tables))
+module _ (w : World) (c : Whole w) (b : Body)
+    (same : factsOf (w .opening) (told (w .opening) (w .position .tables) b) ≡ factsOf (w .opening) (w .position .tables))
     (rows : rowsFit (told (w .opening) (w .position .tables) b) ≡ rowsFit (w .position .tables)) where
   lines-still : linesAfter w b ≡ w .position .lines
   unfolding linesAfter tablesAfter
@@ -224,7 +227,8 @@ module _ (b : Book) (o : Lists) (c : Whole (worldIn b o)) where
       let l : out ≡ numbersAfter (records w) lent = g .list ∙ rw t in
       let n : r .records ≡ length (records w) = g .count ∙ rw t in
       replied-accepted w _ f r lent out m u (e ∙ rw t) (g .number-is ∙ rw t)
-      (ap (λ (x : Book). worldIn x (lendMoney (o .lines) totals o)) k ∙ round-posted totals s (min lastRound (b .round + 1)) refl ∙ rw d) (rw (d, round-written w) l) (rw (d, round-written w) n))
+      (ap (λ (x : Book). worldIn x (lendMoney (o .lines) totals o)) k ∙ round-posted totals s (min lastRound (b .round + 1)) refl ∙ rw d)
+      (rw (d, round-written w) l) (rw (d, round-written w) n))
       (λ t.
       let k : r .book ≡ b = g .book ∙ rw t in
       let s : totals ≡ o .sent = g .sent ∙ rw t in

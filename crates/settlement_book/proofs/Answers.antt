@@ -22,7 +22,8 @@ use Rattle.rules.specs.Questions.{question16}
 use Rattle.rules.specs.Opening.{openingAnswer, opened, afterOpening}
 use Rattle.rules.specs.Effects.{askBook, answer}
 use Rattle.rules.specs.Lent.{Lists, worldIn}
-use Rattle.rules.specs.Queries.{LineResult, lineNumber, lineQuery, lineNamed, lineRefused, periodsNumber, periodsQuery, dayNumber, lacksHolder}
+use Rattle.rules.specs.Queries.{LineResult, lineNumber, lineQuery, lineNamed, lineRefused, periodsNumber, periodsQuery, dayNumber}
+use Rattle.rules.specs.Queries.{lacksHolder}
 use Rattle.rules.specs.Answers.{numberOf, lineResult}
 use Rattle.rules.proofs.Tests.{cases}
 use Rattle.rules.specs.Whole.{Whole}
@@ -69,7 +70,8 @@ module _ (w : World) (s e : ℕ) where
   unfolding lineNamed
   line-small (LineAnswer.Line q k b) h =
       let p = line-passed w s e (eqb-true _ _ (sym (h .told))) in
-      let f : b ≡ lineNamed (stored (w .opening) (w .position .lines) Measure.quantity s e) (stored (w .opening) (w .position .lines) Measure.amount s e) .billionths =
+      let f : b ≡ lineNamed (stored (w .opening) (w .position .lines) Measure.quantity s e)
+      (stored (w .opening) (w .position .lines) Measure.amount s e) .billionths =
       ap (λ (x : LineResult). x .billionths) (h .stored ∙ query-stored w (p .0) s e (p .1)) in
       rw f (billionths-lt _)
   line-small (LineAnswer.Refused a) h = omega arith
@@ -80,7 +82,8 @@ module _ (w : World) (s e : ℕ) where
       let k : lineRefused (numberOf a) ≡ lineRefused (lineNumber w s e) = h .stored ∙ rw (sym (h .told)) in
       ap (λ (x : LineResult). x .number) k
 
-  pub line-in-numbers : (r : LineAnswer) → LineAnswered w s e r → (n : ℕ) → n ≡ lineResult r .number → (lent out : List ℤ) → out ≡ lineAfter r lent
+  pub line-in-numbers : (r : LineAnswer) → LineAnswered w s e r → (n : ℕ) → n ≡ lineResult r .number → (lent out : List ℤ)
+      → out ≡ lineAfter r lent
       → LineIn w s e n lent out
   unfolding lineNumbers lineNamed lineRefused
   line-in-numbers (LineAnswer.Line q k b) h n i lent out j =
@@ -93,11 +96,13 @@ module _ (w : World) (s e : ℕ) where
       record {
         number = i ∙ refused-number a h;
         numbers = rw (← h .told) j;
-        settled = λ w₀ vs x y z. absurd (not-zero _ (h .told) (sym (refused-number a h) ∙ ap (λ (x : LineResult). x .number) (h .settled w₀ vs x y z)));
+        settled = λ w₀ vs x y z. absurd (not-zero _ (h .told)
+            (sym (refused-number a h) ∙ ap (λ (x : LineResult). x .number) (h .settled w₀ vs x y z)));
       }
 
   -- of a book that is not well formed
-  pub line-no-book : (a : Answer) → numberOf a ≡ askBook w 0 → numberOf a ≢ 0 → (n : ℕ) → n ≡ numberOf a → (lent : List ℤ) → LineIn w s e n lent lent
+  pub line-no-book : (a : Answer) → numberOf a ≡ askBook w 0 → numberOf a ≢ 0 → (n : ℕ) → n ≡ numberOf a → (lent : List ℤ)
+      → LineIn w s e n lent lent
   unfolding lineNumber
   line-no-book a h z n i lent =
       let k : numberOf a ≡ lineNumber w s e = h ∙ sym (book-refused w (λ x. z (h ∙ x)) _) in
@@ -125,9 +130,11 @@ periods-no-book w p e n h z lent =
 -- a day that the query names is one of the month
 day-in-month : (o : Opening) (t : Tables) (p d : ℕ) → T (lacksHolder o t p d) → d < monthFirst o + monthDays o
 unfolding lacksHolder question16
-day-in-month o t p d h = ltb→lt _ _ (both-right (leb (monthFirst o) d) (ltb d (monthFirst o + monthDays o)) (both-left (question16 o d) _ h))
+day-in-month o t p d h = ltb→lt _ _ (both-right (leb (monthFirst o) d) (ltb d (monthFirst o + monthDays o))
+    (both-left (question16 o d) _ h))
 
-pub day-in-numbers : (w : World) (p : ℕ) (r : DayAnswer) → DayTold w p r → (n : ℕ) → n ≡ dayAnswerNumber r → (lent out : ℕ) → out ≡ dayAfter r lent
+pub day-in-numbers : (w : World) (p : ℕ) (r : DayAnswer) → DayTold w p r → (n : ℕ) → n ≡ dayAnswerNumber r → (lent out : ℕ)
+    → out ≡ dayAfter r lent
     → DayIn w p n lent out
 unfolding monthFirst monthDays
 day-in-numbers w p (DayAnswer.Day d) h n i lent out j =

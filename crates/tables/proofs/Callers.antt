@@ -12,12 +12,14 @@ use borrow.Author.Tests.{eqb-true, eq-eqb}
 use Rattle.rules.specs.Sizes.{dayRoom, endOfDays}
 use Rattle.rules.specs.Basics.{latest, orElse}
 use Rattle.rules.specs.Fresh.{here}
-use Rattle.rules.specs.Rows.{periodFirst, periodEnd, ofPair, covers, startsOn, insertRow, stopRows, splitRows, packValue, valuePoint, valueFirst, recordedOn, recordRow}
+use Rattle.rules.specs.Rows.{periodFirst, periodEnd, ofPair, covers, startsOn, insertRow, stopRows, splitRows, packValue, valuePoint}
+use Rattle.rules.specs.Rows.{valueFirst, recordedOn, recordRow}
 use Rattle.rules.specs.World.{Table, tableOf}
 use Rattle.rules.proofs.Tests.{tests, cases, both}
 use Rattle.rules.proofs.Ranges.{latest-cong}
 use Rattle.rules.proofs.Words.{pair-true, pair-is, key-pack}
-use Rattle.rules.proofs.Clauses.{dated, starts-cons, insert-nil, insert-cons, stop-nil, stop-cons, split-cons, recorded-nil, recorded-cons, record-nil, record-cons}
+use Rattle.rules.proofs.Clauses.{dated, starts-cons, insert-nil, insert-cons, stop-nil, stop-cons, split-cons, recorded-nil, recorded-cons}
+use Rattle.rules.proofs.Clauses.{record-nil, record-cons}
 use Rattle.rules.proofs.Values.{recorded-pack}
 use Rattle.rules.specs.Order.{Run, done, next, linkedIn}
 use Rattle.rules.proofs.Runs.{linked-nil, linked-cons, linked-from, starts-from, covered}

@@ -2,8 +2,10 @@
 use Prim.Native.Nat.{ℕ, zero, suc, _+_, _-_, _≤_, _<_}
 use mathlib.Core.Path.{_≡_, refl, sym, ap, _∙_}
 use mathlib.Core.List.{List, [], _∷_, _++_, append-nil, append-assoc}
-use lib.ListN.{length, getD, take, drop, set, replicate, length-append, length-take, length-drop, length-set, length-replicate, take-append-drop, drop-of-length-le, replicate-append-replicate}
-use lib.Seq.{length-take-le, take-take, drop-drop, take-at, drop-at, take-all, take-nil, getD-drop, getD-append-add, getD-take, paste-suc, set-append-left, drop-set-lt, take-set-lt}
+use lib.ListN.{length, getD, take, drop, set, replicate, length-append, length-take, length-drop, length-set, length-replicate}
+use lib.ListN.{take-append-drop, drop-of-length-le, replicate-append-replicate}
+use lib.Seq.{length-take-le, take-take, drop-drop, take-at, drop-at, take-all, take-nil, getD-drop, getD-append-add, getD-take, paste-suc}
+use lib.Seq.{set-append-left, drop-set-lt, take-set-lt}
 use native.Mathlib.Omega.{arith}
 use native.Mathlib.Nat.{le-trans, not-suc-le-zero, le-of-suc-le-suc}
 use native.Mathlib.Numerals.{add-one}

@@ -30,27 +30,34 @@ module _ (n : ℕ) (f : Fields) where
   unfolding senderOf when
   role-else a b c = rw (ne-eqb _ _ a, ne-eqb _ _ b, ne-eqb _ _ c)
 
-  pub kind-1 : f .kind ≡ 1 → bodyOf n f ≡ when (isDay (f .day) && (noHour f && isQuantity (f .value))) (Body.Link (f .point) (f .element) (f .day) (f .value))
+  pub kind-1 : f .kind ≡ 1 → bodyOf n f ≡ when (isDay (f .day) && (noHour f && isQuantity (f .value)))
+      (Body.Link (f .point) (f .element) (f .day) (f .value))
   unfolding bodyOf
   kind-1 k = rw k
 
-  pub kind-2 : f .kind ≡ 2 → bodyOf n f ≡ when (isDay (f .day) && (noHour f && eqb (f .value) 0)) (Body.Stop (f .point) (f .element) (f .day))
+  pub kind-2 : f .kind ≡ 2 → bodyOf n f ≡ when (isDay (f .day) && (noHour f && eqb (f .value) 0))
+      (Body.Stop (f .point) (f .element) (f .day))
   unfolding bodyOf
   kind-2 k = rw k
 
-  pub kind-3 : f .kind ≡ 3 → bodyOf n f ≡ when (isDay (f .day) && (noHour f && isQuantity (f .value))) (Body.Quantity (f .point) (f .element) (f .day) (f .value))
+  pub kind-3 : f .kind ≡ 3 → bodyOf n f ≡ when (isDay (f .day) && (noHour f && isQuantity (f .value)))
+      (Body.Quantity (f .point) (f .element) (f .day) (f .value))
   unfolding bodyOf
   kind-3 k = rw k
 
-  pub kind-4 : f .kind ≡ 4 → bodyOf n f ≡ when (isDay (f .day) && (noElement f && leb (f .value) n)) (Body.Holder (f .point) (f .day) (f .value))
+  pub kind-4 : f .kind ≡ 4 → bodyOf n f ≡ when (isDay (f .day) && (noElement f && leb (f .value) n))
+      (Body.Holder (f .point) (f .day) (f .value))
   unfolding bodyOf
   kind-4 k = rw k
 
-  pub kind-5 : f .kind ≡ 5 → bodyOf n f ≡ when (isDay (f .day) && (noElement f && within 1 4 (f .value))) (Body.State (f .point) (f .day) (f .value))
+  pub kind-5 : f .kind ≡ 5 → bodyOf n f ≡ when (isDay (f .day) && (noElement f && within 1 4 (f .value)))
+      (Body.State (f .point) (f .day) (f .value))
   unfolding bodyOf
   kind-5 k = rw k
 
-  pub kind-6 : f .kind ≡ 6 → bodyOf n f ≡ when (isDay (f .day) && (eqb (f .element) 0 && (ltb (f .hour) hourPlaces && leb (f .value) mostEnergy))) (Body.Reading (f .point) (f .day) (f .hour) (f .value))
+  pub kind-6 : f .kind ≡ 6 → bodyOf n f ≡ when
+      (isDay (f .day) && (eqb (f .element) 0 && (ltb (f .hour) hourPlaces && leb (f .value) mostEnergy)))
+      (Body.Reading (f .point) (f .day) (f .hour) (f .value))
   unfolding bodyOf
   kind-6 k = rw k
 
@@ -62,6 +69,16 @@ module _ (n : ℕ) (f : Fields) where
   unfolding bodyOf
   kind-8 k = rw k
 
-  pub kind-else : f .kind ≢ 1 → f .kind ≢ 2 → f .kind ≢ 3 → f .kind ≢ 4 → f .kind ≢ 5 → f .kind ≢ 6 → f .kind ≢ 7 → f .kind ≢ 8 → bodyOf n f ≡ none
+  pub kind-else : f .kind ≢ 1 → f .kind ≢ 2 → f .kind ≢ 3 → f .kind ≢ 4 → f .kind ≢ 5 → f .kind ≢ 6 → f .kind ≢ 7 → f .kind ≢ 8
+      → bodyOf n f ≡ none
   unfolding bodyOf when
-  kind-else a b c d e g h i = rw (ne-eqb _ _ a, ne-eqb _ _ b, ne-eqb _ _ c, ne-eqb _ _ d, ne-eqb _ _ e, ne-eqb _ _ g, ne-eqb _ _ h, ne-eqb _ _ i)
+  kind-else a b c d e g h i = rw (
+    ne-eqb _ _ a,
+    ne-eqb _ _ b,
+    ne-eqb _ _ c,
+    ne-eqb _ _ d,
+    ne-eqb _ _ e,
+    ne-eqb _ _ g,
+    ne-eqb _ _ h,
+    ne-eqb _ _ i,
+  )

@@ -15,7 +15,9 @@ use Rattle.rules.specs.declared.Message.{Message}
 use Rattle.rules.specs.Sizes.{endOfDays, mostPoints, mostElements, daysAhead}
 use Rattle.rules.specs.Basics.{asked}
 use Rattle.rules.specs.World.{Opening, Tables, kindOf, ownerOf, marksOf, marked, isTariff, holderOn}
-use Rattle.rules.specs.Questions.{inTime, pointOf, placeOf, tariffOnce, blocked, mayLink, maySend, isGridCompany, isEnerginet, question7, question8, question9, question10, question11, question12, question13, question14, question15, question16, ownQuestion, ownNumber}
+use Rattle.rules.specs.Questions.{inTime, pointOf, placeOf, tariffOnce, blocked, mayLink, maySend, isGridCompany, isEnerginet, question7}
+use Rattle.rules.specs.Questions.{question8, question9, question10, question11, question12, question13, question14, question15, question16}
+use Rattle.rules.specs.Questions.{ownQuestion, ownNumber}
 use Rattle.rules.specs.Effects.{ask}
 use Rattle.rules.proofs.Tests.{cases}
 use Rattle.rules.specs.Ready.{Ranged}
@@ -98,11 +100,13 @@ module _ (o : Opening) (t : Tables) (m : Message) where
         unknown-rest (ltb (l .point) (o .points)) (ltb (l .element) (o .elements)) once
         (allowed o t (m .sender) (m .received) l (ask own n 0)) h
 
-  pub holder-is : (p d v : ℕ) → m .body ≡ Body.Holder p d v → decided o t m 0 ≡ ask (ltb p (o .points)) 7 (ask (isEnerginet (m .sender)) 9 0)
+  pub holder-is : (p d v : ℕ) → m .body ≡ Body.Holder p d v
+      → decided o t m 0 ≡ ask (ltb p (o .points)) 7 (ask (isEnerginet (m .sender)) 9 0)
   unfolding decided ask question7 question8 question9 question10 question11 question12 ownQuestion ownNumber pointOf placeOf maySend asked tariffOnce
   holder-is p d v h = rw h
 
-  pub state-is : (p d v : ℕ) → m .body ≡ Body.State p d v → decided o t m 0 ≡ ask (ltb p (o .points)) 7 (ask (isGridCompany (m .sender)) 9 0)
+  pub state-is : (p d v : ℕ) → m .body ≡ Body.State p d v
+      → decided o t m 0 ≡ ask (ltb p (o .points)) 7 (ask (isGridCompany (m .sender)) 9 0)
   unfolding decided ask question7 question8 question9 question10 question11 question12 ownQuestion ownNumber pointOf placeOf maySend asked tariffOnce
   state-is p d v h = rw h
 
@@ -120,7 +124,8 @@ module _ (o : Opening) (t : Tables) (m : Message) where
   after-point true false c = refl
   after-point false b c = refl
 
-  read : (p d i n : ℕ) → m .body ≡ Body.Reading p d i n → decided o t m 0 ≡ ask (ltb p (o .points)) 7 (ask (isGridCompany (m .sender)) 9 (ask (question16 o d) 16 0))
+  read : (p d i n : ℕ) → m .body ≡ Body.Reading p d i n
+      → decided o t m 0 ≡ ask (ltb p (o .points)) 7 (ask (isGridCompany (m .sender)) 9 (ask (question16 o d) 16 0))
   unfolding decided ask question7 question8 question9 question10 question11 question12 ownQuestion ownNumber pointOf placeOf maySend asked tariffOnce
   read p d i n h = rw h
 

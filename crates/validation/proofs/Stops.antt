@@ -39,7 +39,8 @@ any-true f zero i h t = absurd (omega arith)
 any-true f (suc n) i h t = cases (f n)
     (λ k. rw k)
     (λ k. rw k (cases (eqb i n)
-    (λ e. let z : f n ≡ true = rw (eqb-true i n e) at t in let y : _≡_ {A = Bool} true false = sym z ∙ k in absurd (let x : _≡_ {A = ℕ} 0 1 = cc in omega arith))
+    (λ e. let z : f n ≡ true = rw (eqb-true i n e) at t in let y : _≡_ {A = Bool} true false = sym z ∙ k in
+    absurd (let x : _≡_ {A = ℕ} 0 1 = cc in omega arith))
     (λ e. any-true f n i (omega (arith, tests)) t)))
 
 any-false : (f : ℕ → Bool) (n : ℕ) → ((i : ℕ) → i < n → f i ≡ false) → anyTo f n ≡ false
@@ -70,7 +71,8 @@ ends-cons w ws h = let k = both (leb (periodEnd w) endOfDays) (allIn endsInTime 
 -- ---- the rows of the pair, by a test that says of each row whether it covers one of n days
 
 module _ (p e : ℕ) (day : ℕ → ℕ) (n : ℕ) (test : ℕ → Bool)
-    (says : (w : ℕ) → periodFirst w < periodEnd w → periodEnd w ≤ endOfDays → anyTo (λ i. leb (periodFirst w) (day i) && ltb (day i) (periodEnd w)) n ≡ test w) where
+    (says : (w : ℕ) → periodFirst w < periodEnd w → periodEnd w ≤ endOfDays
+    → anyTo (λ i. leb (periodFirst w) (day i) && ltb (day i) (periodEnd w)) n ≡ test w) where
   row-linked : (w : ℕ) → periodFirst w < periodEnd w → periodEnd w ≤ endOfDays
       → anyTo (λ i. covers p e (day i) w) n ≡ (ofPair p e w && test w)
   row-linked w h k =
@@ -79,7 +81,8 @@ module _ (p e : ℕ) (day : ℕ → ℕ) (n : ℕ) (test : ℕ → Bool)
       (λ t. rw t (says w h k))
       (λ t. rw t (any-false _ n (λ i l. refl)))
 
-  some-linked : {k : ℕ} {ws : List ℕ} → Run k ws → allIn endsInTime ws ≡ true → anyTo (λ i. linkedIn ws p e (day i)) n ≡ anyIn test (pairRows p e ws)
+  some-linked : {k : ℕ} {ws : List ℕ} → Run k ws → allIn endsInTime ws ≡ true
+      → anyTo (λ i. linkedIn ws p e (day i)) n ≡ anyIn test (pairRows p e ws)
   unfolding pairRows keep anyIn
   some-linked done h = any-false _ n (λ i l. linked-nil p e (day i))
   some-linked (next {w = w} {ws = ws} a b c r) h =
@@ -105,7 +108,8 @@ module _ (a b d : ℕ) (h : a < b) where
 
 -- a stop has a day before it and a day from it on where a row starts before it and a row ends after it
 some-rows : (t : Tables) (p e d : ℕ) → Run 0 (rowsOf (t .links)) → allIn endsInTime (rowsOf (t .links)) ≡ true
-    → question14 t p e d ≡ (anyIn (startsBefore d) (pairRows p e (rowsOf (t .links))) && anyIn (endsAfter d) (pairRows p e (rowsOf (t .links))))
+    → question14 t p e d ≡ (anyIn (startsBefore d) (pairRows p e (rowsOf (t .links))) && anyIn (endsAfter d)
+    (pairRows p e (rowsOf (t .links))))
 unfolding question14 linkedOn
 some-rows t p e d r h =
     let ws = rowsOf (t .links) in
@@ -114,7 +118,8 @@ some-rows t p e d r h =
     ∙ some-linked p e (λ i. i) d (startsBefore d) (λ w k l. unfold startsBefore in before-says (periodFirst w) (periodEnd w) d k) r h in
     let y : anyTo (λ i. not (eqb (quantityOn ws p e (d + i)) 0)) (endOfDays - d) ≡ anyIn (endsAfter d) (pairRows p e ws)
     = any-cong _ (λ i. linkedIn ws p e (d + i)) (endOfDays - d) (λ i. linked-quantity p e (d + i) r)
-    ∙ some-linked p e (λ i. d + i) (endOfDays - d) (endsAfter d) (λ w k l. unfold endsAfter in after-says (periodFirst w) (periodEnd w) d k l) r h in
+    ∙ some-linked p e (λ i. d + i) (endOfDays - d) (endsAfter d)
+    (λ w k l. unfold endsAfter in after-says (periodFirst w) (periodEnd w) d k l) r h in
     rw (x, y)
 
 -- ---- rows of one pair in order: the first starts first, and the last ends last

@@ -45,7 +45,10 @@ whole-readable b l c =
       points = n .limited .points;
       elements = n .limited .elements;
       data-length = n .elementData;
-      link-rows = record { rows = rows .links; ends = unfold rowsOf in ends-all o (rowsOf (t .links)) (links-each o (t .links) (formed (worldIn b l) c .tables .links)) };
+      link-rows = record {
+        rows = rows .links;
+        ends = unfold rowsOf in ends-all o (rowsOf (t .links)) (links-each o (t .links) (formed (worldIn b l) c .tables .links));
+      };
       holder-rows = rows .holders;
       state-rows = rows .states;
       block-places = n .blocks;

@@ -23,7 +23,8 @@ world b ds ps links holders states readings blocks lines sent =
     worldIn b (lendElements ds ps (lendTables links holders states readings blocks lines sent noLists))
 
 abbrev Inv-loop : tie.InvT-loop
-Inv-loop element-data prices links₀ holders₀ states₀ readings₀ blocks₀ lines₀ sent₀ records₀ inputs answers₀ n after₀ count₀ i₀ links holders states readings blocks lines sent records answers after count i =
+Inv-loop element-data prices links₀ holders₀ states₀ readings₀ blocks₀ lines₀ sent₀ records₀ inputs answers₀ n after₀ count₀ i₀ links
+    holders states readings blocks lines sent records answers after count i =
     (i ≤ n)
     × Followed (world after₀ element-data prices links₀ holders₀ states₀ readings₀ blocks₀ lines₀ sent₀)
     (world after element-data prices links holders states readings blocks lines sent)
@@ -33,7 +34,8 @@ Inv-loop element-data prices links₀ holders₀ states₀ readings₀ blocks₀
     × (length lines ≡ length lines₀) × (length sent ≡ length sent₀)
 
 abbrev μ-loop : tie.MeasureT-loop
-μ-loop element-data prices links₀ holders₀ states₀ readings₀ blocks₀ lines₀ sent₀ records₀ inputs answers₀ n after₀ count₀ i₀ links holders states readings blocks lines sent records answers after count i =
+μ-loop element-data prices links₀ holders₀ states₀ readings₀ blocks₀ lines₀ sent₀ records₀ inputs answers₀ n after₀ count₀ i₀ links holders
+    states readings blocks lines sent records answers after count i =
     n - i
 
 -- places on the way
@@ -51,12 +53,14 @@ long : (s : tie.Start Inv-loop μ-loop) → (length (s .args .records .now) < 2 
 long s = search
 
 -- the records so far fit it, and it has its length
-fits : (c : Turn) → (c .before .loop .count * recordSize ≤ length (start-of c .args .records .now)) × (length (c .before .loop .records) ≡ length (start-of c .args .records .now))
+fits : (c : Turn) → (c .before .loop .count * recordSize ≤ length (start-of c .args .records .now))
+    × (length (c .before .loop .records) ≡ length (start-of c .args .records .now))
 fits c =
     let k = count-fits _ _ _ _ _ _ _ _ (c .before .loop .inv .1) in
     (omega arith, list-long _ _ _ _ _ _ _ _ (c .before .loop .inv .1))
 
-room-for-answers : (s : tie.Start Inv-loop μ-loop) → (length (s .args .answers .now) < 2 ^ 64) × (length (s .args .answers .now) * 8 < 2 ^ 63)
+room-for-answers : (s : tie.Start Inv-loop μ-loop) → (length (s .args .answers .now) < 2 ^ 64)
+    × (length (s .args .answers .now) * 8 < 2 ^ 63)
 room-for-answers s = search
 
 abbrev Replying : Type 0
@@ -71,7 +75,8 @@ read-of c = search
 abbrev replied-of : tie.After-number Inv-loop μ-loop → Replying
 replied-of c = search
 
-next-count : (c : Replying) → turn-of c .before .loop .count + c .message .result .records ≤ length (start-of (turn-of c) .args .records .now) / recordSize
+next-count : (c : Replying) → turn-of c .before .loop .count + c .message .result .records ≤ length
+    (start-of (turn-of c) .args .records .now) / recordSize
 next-count c =
     let turn = turn-of c in
     let h = fits turn in

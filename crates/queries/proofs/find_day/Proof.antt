@@ -55,7 +55,8 @@ returns : tie.Need-returns Inv-loop μ-loop
 returns c o whole =
     let start : tie.Start Inv-loop μ-loop = search in
     let a = start .args in
-    let h = day-open (worldIn (a .book) (lendRows (a .links .now) (a .holders .now) (a .states .now) o)) whole (a .point) (start .pre .point) in
+    let h = day-open (worldIn (a .book) (lendRows (a .links .now) (a .holders .now) (a .states .now) o)) whole (a .point)
+    (start .pre .point) in
     record {
       told = sym (eq-eqb _ _ h);
       holds = record { number = h; lacks = is-T _ (sym (c .before .lacks-holder .ensures o) ∙ c .if1 .taken) };
@@ -85,7 +86,8 @@ returns-2 c o whole =
     let start : tie.Start Inv-loop μ-loop = search in
     let a = start .args in
     let l = c .before .loop in
-    let h = day-open (worldIn (a .book) (lendRows (a .links .now) (a .holders .now) (a .states .now) o)) whole (a .point) (start .pre .point) in
+    let h = day-open (worldIn (a .book) (lendRows (a .links .now) (a .holders .now) (a .states .now) o)) whole (a .point)
+    (start .pre .point) in
     record {
       told = sym (eq-eqb _ _ h);
       holds = record {

@@ -20,7 +20,10 @@ abbrev μ-loop : tie.MeasureT-loop
 μ-loop book links point day used element₀ element = book .elements - element
 
 loop-holds : tie.Need-loop-holds Inv-loop μ-loop
-loop-holds c = let s = c .before in (omega arith, any-none (linkedBy (take (s .args .book .periods) (s .args .links .now)) (s .args .point) (s .args .day)))
+loop-holds c = let s = c .before in (
+  omega arith,
+  any-none (linkedBy (take (s .args .book .periods) (s .args .links .now)) (s .args .point) (s .args .day)),
+)
 
 quantity-on-requires : tie.Need-quantity-on-requires Inv-loop μ-loop
 quantity-on-requires c κs = search needs

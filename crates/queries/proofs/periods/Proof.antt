@@ -63,7 +63,8 @@ returns-2 c =
     let start : tie.Start = search in
     let numbered : tie.After-number = search in
     let no : tie.Else1 = search in (
-      λ o e. periods-refused (world start o) (start .args .point) (start .args .element) (λ z. no .if1 .left (numbered .number .ensures ∙ e ∙ z)),
+      λ o e. periods-refused (world start o) (start .args .point) (start .args .element)
+          (λ z. no .if1 .left (numbered .number .ensures ∙ e ∙ z)),
       λ n. refl,
     )
 

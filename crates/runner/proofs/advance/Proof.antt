@@ -1,5 +1,5 @@
--- The field that was found asks for one of three things: a message of an open book, whose tables are the fronts of what is lent; the opening
--- of the book, which clears them; or what its phase says.
+-- The field that was found asks for one of three things: a message of an open book, whose tables are the fronts of what is lent; the
+-- opening of the book, which clears them; or what its phase says.
 use mathlib.Core.Path.{_≡_, refl, sym, ap, subst, _∙_}
 use Prim.Native.Nat.{ℕ}
 use mathlib.Core.Bool.{true, false}
@@ -45,7 +45,8 @@ task-is : (c : tie.After-task-of) → c .task-of .result ≡ taskOf (asked-start
 task-is c = c .task-of .ensures
 
 found-is : (c : tie.After-task-of)
-    → found-of c ≡ foundAt (asked-start c .args .s .now) (asked-start c .args .at) (asked-start c .args .progress .phase) (asked-start c .args .ended)
+    → found-of c ≡ foundAt (asked-start c .args .s .now) (asked-start c .args .at) (asked-start c .args .progress .phase)
+    (asked-start c .args .ended)
 found-is c = let f : tie.After-find = search in f .find .ensures
 
 -- ---- a message of an open book
@@ -64,7 +65,8 @@ standing : (c : tie.After-task) (stage : Stage) → Represents (start-of c .args
     → InMessages (start-of c .args .progress) (lent (start-of c)) (start-of c .pre .1 .1 .0 .0) stage
 standing c = stage-messages (start-of c .args .progress) (lent (start-of c)) (start-of c .pre .1 .1 .0 .0) (taking c .phase-is)
 
-open-book : (c : tie.After-task) → InMessages (start-of c .args .progress) (lent (start-of c)) (start-of c .pre .1 .1 .0 .0) (start-of c .pre .1 .0 .stage)
+open-book : (c : tie.After-task) → InMessages (start-of c .args .progress) (lent (start-of c)) (start-of c .pre .1 .1 .0 .0)
+    (start-of c .pre .1 .0 .stage)
 open-book c = standing c (start-of c .pre .1 .0 .stage) (start-of c .pre .1 .0 .holds)
 
 fitted : (c : tie.After-task) → Fitted (start-of c .args .progress .book)
@@ -148,7 +150,8 @@ other-asked c = search
 abbrev other-known : tie.After-take-field → tie.After-enum-told
 other-known c = search
 
-is-other : (c : tie.After-enum-told) → isOther (taskOf (asked-start (other-asked c) .args .progress .phase) (found-of (other-asked c))) ≡ true
+is-other : (c : tie.After-enum-told) → isOther
+    (taskOf (asked-start (other-asked c) .args .progress .phase) (found-of (other-asked c))) ≡ true
 unfolding isOther
 is-other c = ap isOther (sym (task-is (other-asked c)) ∙ c .enum-told .given .1)
 
@@ -227,14 +230,17 @@ message-requires : tie.Need-message-requires
 message-requires c κs =
     let made : tie.After-ends-of = search in
     let s = start-of (known-of made) in
-    subst (λ (e : Ends). Whole (worldIn (s .args .progress .book) (cutTo e (lent s)))) (sym (made .ends-of .ensures)) (open-book (known-of made) .whole)
+    subst (λ (e : Ends). Whole (worldIn (s .args .progress .book) (cutTo e (lent s)))) (sym (made .ends-of .ensures))
+    (open-book (known-of made) .whole)
 
 message-done-requires : tie.Need-message-done-requires
 message-done-requires c κs =
     let replied : tie.After-message = search in
     let s = start-of (known-of (ends-before replied)) in
-    let p = replied .message .ensures .0 in
-    ((few-records _ _ _ _ _ _ (s .pre .1 .1 .1 .0) p, placed-records _ _ _ _ _ _ (s .pre .1 .1 .1 .0) p), (s .pre .1 .1 .1 .1, s .pre .1 .1 .0 .1))
+    let p = replied .message .ensures .0 in (
+      (few-records _ _ _ _ _ _ (s .pre .1 .1 .1 .0) p, placed-records _ _ _ _ _ _ (s .pre .1 .1 .1 .0) p),
+      (s .pre .1 .1 .1 .1, s .pre .1 .1 .0 .1),
+    )
 
 enum-known-task-2 : tie.Need-enum-known-task-2
 enum-known-task-2 c = search needs
@@ -384,7 +390,8 @@ returns-2 c =
           ∙ ap (λ (f : Found). moveOn (a .at) (messages (frontsWorld (a .progress .book) (lent s)) (a .progress .number)) f (a .s .now))
           (sym (found-is (asked-of known)) ∙ t .found-is))
           (arm-message (a .progress .book) (lent s) (ends made) (made .ends-of .ensures) (s .pre .0) (fitted known) _ _ _ _ _ _ _
-          (record { readings = omega (arith, k); blocks = omega (arith, k); lines = omega (arith, k); sent = omega (arith, k) }) _ (replied .message .result)
+          (record { readings = omega (arith, k); blocks = omega (arith, k); lines = omega (arith, k); sent = omega (arith, k) }) _
+          (replied .message .result)
           (a .at) _ (a .progress .number) (a .s .now) _ _ (s .pre .1 .1 .1 .0) (replied .message .ensures .0) (replied .message .ensures .1)
           (open-book known .points) _ _ (a .from) (done .message-done .result) (e .0) (e .1)),
       ap (λ (r : Advanced). r .more) (e .1) ∙ sym m,

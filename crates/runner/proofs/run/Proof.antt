@@ -20,13 +20,15 @@ tables ds ps links holders states readings blocks lines sent =
     lendElements ds ps (lendTables links holders states readings blocks lines sent noLists)
 
 abbrev Inv-loop : tie.InvT-loop
-Inv-loop s at ended element-data₀ prices₀ links₀ holders₀ states₀ readings₀ blocks₀ lines₀ sent₀ records₀ out₀ p₀ place₀ written₀ waits₀ element-data prices links holders states readings blocks lines sent records out p place written waits =
+Inv-loop s at ended element-data₀ prices₀ links₀ holders₀ states₀ readings₀ blocks₀ lines₀ sent₀ records₀ out₀ p₀ place₀ written₀ waits₀
+    element-data prices links holders states readings blocks lines sent records out p place written waits =
     Running ended s at p₀ (tables element-data₀ prices₀ links₀ holders₀ states₀ readings₀ blocks₀ lines₀ sent₀) out₀
     (tables element-data prices links holders states readings blocks lines sent) out p place written waits
     × (length records ≡ settleRecords * recordSize)
 
 abbrev μ-loop : tie.MeasureT-loop
-μ-loop s at ended element-data₀ prices₀ links₀ holders₀ states₀ readings₀ blocks₀ lines₀ sent₀ records₀ out₀ p₀ place₀ written₀ waits₀ element-data prices links holders states readings blocks lines sent records out p place written waits =
+μ-loop s at ended element-data₀ prices₀ links₀ holders₀ states₀ readings₀ blocks₀ lines₀ sent₀ records₀ out₀ p₀ place₀ written₀ waits₀
+    element-data prices links holders states readings blocks lines sent records out p place written waits =
     weight waits p (length s - place)
 
 -- everything that is lent
@@ -65,8 +67,10 @@ going c =
 loop-holds : tie.Need-loop-holds Inv-loop μ-loop
 loop-holds c =
     let start : tie.Start Inv-loop μ-loop = search in
-    let a = start .args in
-    (begins (a .ended) (a .s .now) (a .at) (a .progress) (lent start) (a .out .now) (start .pre .1 .1 .0) (start .pre .0), start .pre .1 .1 .1)
+    let a = start .args in (
+      begins (a .ended) (a .s .now) (a .at) (a .progress) (lent start) (a .out .now) (start .pre .1 .1 .0) (start .pre .0),
+      start .pre .1 .1 .1,
+    )
 
 sub-can-go-on : tie.Need-sub-can-go-on Inv-loop μ-loop
 sub-can-go-on c = let i = c .loop .inv .0 in omega (arith, i .long, i .text)
@@ -85,7 +89,8 @@ advance-requires c κs =
     let g = going turn in (
       u .sized,
       (
-        stands (a .ended) (a .s .now) (a .at) (a .progress) (lent start) (a .out .now) (now-lent head) (l .out) (l .p) (l .place) (l .written)
+        stands (a .ended) (a .s .now) (a .at) (a .progress) (lent start) (a .out .now) (now-lent head) (l .out) (l .p) (l .place)
+            (l .written)
             (l .waits) u (start .pre .1 .0),
         ((g .over-not, g .number, u .inside), (l .inv .1, omega (arith, g .room))),
       ),
@@ -100,7 +105,8 @@ loop-less c =
     let a = start .args in
     let l = head .loop in
     less (a .ended) (a .s .now) (a .at) (a .progress) (lent start) (a .out .now) (now-lent head) (l .out) (l .p) (l .place) (l .written)
-    (l .waits) (l .inv .0) (start .pre .1 .0) (going turn) _ _ (done .advance .result) (done .advance .ensures .0) (done .advance .ensures .1)
+    (l .waits) (l .inv .0) (start .pre .1 .0) (going turn) _ _ (done .advance .result) (done .advance .ensures .0)
+    (done .advance .ensures .1)
 
 loop-again : tie.Need-loop-again Inv-loop μ-loop
 loop-again c =
@@ -113,7 +119,8 @@ loop-again c =
     let z = l .inv .0 .sized in
     let k = done .advance .kept in (
       turns (a .ended) (a .s .now) (a .at) (a .progress) (lent start) (a .out .now) (now-lent head) (l .out) (l .p) (l .place) (l .written)
-          (l .waits) (l .inv .0) (start .pre .1 .0) (going turn) _ _ (done .advance .result) (done .advance .ensures .0) (done .advance .ensures .1)
+          (l .waits) (l .inv .0) (start .pre .1 .0) (going turn) _ _ (done .advance .result) (done .advance .ensures .0)
+          (done .advance .ensures .1)
           (record {
             elementData = omega (arith, k, z);
             prices = omega (arith, k, z);

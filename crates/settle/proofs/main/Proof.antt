@@ -23,13 +23,15 @@ tables ds ps links holders states readings blocks lines sent =
     lendElements ds ps (lendTables links holders states readings blocks lines sent noLists)
 
 abbrev Inv-loop : tie.InvT-loop
-Inv-loop element-data₀ prices₀ links₀ holders₀ states₀ readings₀ blocks₀ lines₀ sent₀ records₀ out₀ buffer₀ progress₀ have₀ ended₀ turns₀ element-data prices links holders states readings blocks lines sent records out buffer progress have ended turns =
+Inv-loop element-data₀ prices₀ links₀ holders₀ states₀ readings₀ blocks₀ lines₀ sent₀ records₀ out₀ buffer₀ progress₀ have₀ ended₀ turns₀
+    element-data prices links holders states readings blocks lines sent records out buffer progress have ended turns =
     Sized (tables element-data prices links holders states readings blocks lines sent)
     × Stands progress (tables element-data prices links holders states readings blocks lines sent)
     × (length buffer ≡ 65536) × (have ≤ 65536) × (length out ≡ 2 * longestText) × (length records ≡ settleRecords * recordSize)
 
 abbrev μ-loop : tie.MeasureT-loop
-μ-loop element-data₀ prices₀ links₀ holders₀ states₀ readings₀ blocks₀ lines₀ sent₀ records₀ out₀ buffer₀ progress₀ have₀ ended₀ turns₀ element-data prices links holders states readings blocks lines sent records out buffer progress have ended turns =
+μ-loop element-data₀ prices₀ links₀ holders₀ states₀ readings₀ blocks₀ lines₀ sent₀ records₀ out₀ buffer₀ progress₀ have₀ ended₀ turns₀
+    element-data prices links holders states readings blocks lines sent records out buffer progress have ended turns =
     turns
 
 -- places on the way

@@ -102,7 +102,10 @@ write-rows-requires c κs =
     let e = ended .link-ends .ensures (lent start o) in (
       whole-rows (a .book) (lent start o) (r .whole),
       (
-        (row-fits (a .book) (lent start o) (a .body) (start .pre .1) (r .ready), rw e (ends-below (a .book) (lent start o) (a .body) (r .ready))),
+        (
+          row-fits (a .book) (lent start o) (a .body) (start .pre .1) (r .ready),
+          rw e (ends-below (a .book) (lent start o) (a .body) (r .ready)),
+        ),
         λ v. both _ _ (sym (tested .is-fitting .ensures v) ∙ fits .if1 .taken) .0,
       ),
     )
@@ -120,13 +123,15 @@ slice-aggregate-commit-lines : tie.Need-slice-aggregate-commit-lines
 slice-aggregate-commit-lines c =
     let start = start-of (posting-of c) in
     let a = start .args in
-    sym ((posting-of c) .post .ensures (lendLines (a .lines .now) (start .pre .0 .0)) (postable (a .book) (lent start (start .pre .0 .0)) (a .body) (start .pre .0 .1)) .quantity .same-length)
+    sym ((posting-of c) .post .ensures (lendLines (a .lines .now) (start .pre .0 .0))
+    (postable (a .book) (lent start (start .pre .0 .0)) (a .body) (start .pre .0 .1)) .quantity .same-length)
 
 slice-aggregate-commit-lines-2 : tie.Need-slice-aggregate-commit-lines-2
 slice-aggregate-commit-lines-2 c =
     let start = start-of (posted-of c) in
     let a = start .args in
-    sym ((posted-of c) .post .ensures (lendLines (a .lines .now) (start .pre .0 .0)) (postable (a .book) (lent start (start .pre .0 .0)) (a .body) (start .pre .0 .1)) .amount .same-length)
+    sym ((posted-of c) .post .ensures (lendLines (a .lines .now) (start .pre .0 .0))
+    (postable (a .book) (lent start (start .pre .0 .0)) (a .body) (start .pre .0 .1)) .amount .same-length)
 
 commit-lines-requires : tie.Need-commit-lines-requires
 unfolding zeros lineCount
@@ -136,7 +141,8 @@ commit-lines-requires c κs =
     let a = start .args in
     let o = start .pre .0 .0 in
     let r = start .pre .0 .1 in
-    changed (a .book) (lent start o) (a .body) r _ _ (done .post .ensures (lendLines (a .lines .now) o) (postable (a .book) (lent start o) (a .body) r))
+    changed (a .book) (lent start o) (a .body) r _ _
+    (done .post .ensures (lendLines (a .lines .now) o) (postable (a .book) (lent start o) (a .body) r))
 
 accepted-requires : tie.Need-accepted-requires
 accepted-requires c κs = search needs

@@ -11,7 +11,8 @@ use Rattle.validation.specs.Found.{foundMessage}
 use Rattle.validation.specs.Decided.{decidedIn}
 use Rattle.validation.proofs.Whole.{whole-readable, in-ranges}
 use Rattle.settlement.specs.Replies.{ReadyIn}
-use Rattle.settlement.proofs.Stepping.{lists-whole, replied-refused, replied-applied, replied-sent, replied-whole, answer-none, answer-refused, passed-ready, row-no-round, round-is, block-applied}
+use Rattle.settlement.proofs.Stepping.{lists-whole, replied-refused, replied-applied, replied-sent, replied-whole, answer-none}
+use Rattle.settlement.proofs.Stepping.{answer-refused, passed-ready, row-no-round, round-is, block-applied}
 use Rattle.rules.proofs.Parts.{lengths}
 use Rattle.recording.proofs.Passed.{block-fits, writes-row}
 use Rattle.ledger.proofs.RoundLaws.{settled}
@@ -77,14 +78,17 @@ returns c =
     let e = c .refused .ensures in
     let u = sym (read .understand .ensures) ∙ ap foundMessage (told .enum-told .given .1) in
     let g = replied-refused (world start) _ (start .args .fields) _ (start .args .records .now) _ 6
-    (answer-none (world start) (start .pre) (start .args .fields) _ u) (λ z. omega arith) (ap numberOf (e .0)) (ap (λ b. worldIn b (lent start)) (e .1)) refl (e .2) in
+    (answer-none (world start) (start .pre) (start .args .fields) _ u) (λ z. omega arith) (ap numberOf (e .0))
+    (ap (λ b. worldIn b (lent start)) (e .1)) refl (e .2) in
     (g, replied-whole (start .pre) g)
 
 decide-requires : tie.Need-decide-requires
 decide-requires c κs =
     let start : tie.Start = search in
-    let read : tie.After-understood = search in
-    (whole-readable (start .args .book) (lent start) (start .pre), in-ranges (start .args .book .suppliers) (start .args .fields) _ (message-is read))
+    let read : tie.After-understood = search in (
+      whole-readable (start .args .book) (lent start) (start .pre),
+      in-ranges (start .args .book .suppliers) (start .args .fields) _ (message-is read),
+    )
 
 number-requires : tie.Need-number-requires
 number-requires c κs = search needs
@@ -113,9 +117,11 @@ returns-2 c =
     let no : tie.Then1 = search in
     let e = c .refused2 .ensures in
     let d = asked .decide .ensures (lent start) in
-    let n = answer-refused (world start) (start .pre) (start .args .fields) _ _ (message-is read) (λ z. no .if1 .taken (numbered .number .ensures ∙ d ∙ z)) in
+    let n = answer-refused (world start) (start .pre) (start .args .fields) _ _ (message-is read)
+    (λ z. no .if1 .taken (numbered .number .ensures ∙ d ∙ z)) in
     let g = replied-refused (world start) _ (start .args .fields) _ (start .args .records .now) _ _ n
-    (λ z. no .if1 .taken (numbered .number .ensures ∙ d ∙ z)) (ap numberOf (e .0) ∙ d) (ap (λ b. worldIn b (lent start)) (e .1)) refl (e .2) in
+    (λ z. no .if1 .taken (numbered .number .ensures ∙ d ∙ z)) (ap numberOf (e .0) ∙ d) (ap (λ b. worldIn b (lent start)) (e .1)) refl
+    (e .2) in
     (g, replied-whole (start .pre) g)
 
 enum-known-body : tie.Need-enum-known-body
@@ -219,7 +225,8 @@ returns-4 c =
     let body = known .body2 .given .1 in
     let g = replied-applied (world start) _ (start .pre) (start .args .fields) _ (start .args .records .now) _ (message-is (read-of passed))
     (decided-is passed) _ body (unfold isRound in refl)
-    (block-applied (start .args .book) (lent start) (start .pre) _ _ _ (wrote .write-block .ensures) _ (e .1) _ (ap numberOf (e .0))) (e .2) in
+    (block-applied (start .args .book) (lent start) (start .pre) _ _ _ (wrote .write-block .ensures) _ (e .1) _ (ap numberOf (e .0)))
+    (e .2) in
     (g, replied-whole (start .pre) g)
 
 same-length-15 : tie.Need-same-length-15
@@ -257,7 +264,8 @@ returns-5 c =
     let done = sending-of c in
     let passed = before-sending done in
     let start = start-of (read-of passed) in
-    let g = replied-sent (start .args .book) (lent start) (start .pre) (start .args .fields) _ (start .args .records .now) _ _ (message-is (read-of passed))
+    let g = replied-sent (start .args .book) (lent start) (start .pre) (start .args .fields) _ (start .args .records .now) _ _
+    (message-is (read-of passed))
     (decided-is passed) (round-is _ (at-round done .match2 .keys3)) _ (done .send .ensures (lent start)) in
     (g, replied-whole (start .pre) g)
 

@@ -40,8 +40,10 @@ returns c o =
     let made : tie.After-with-round = search in
     let asked : tie.Then1 = search in
     let e = c .accepted .ensures in
-    sent-records (start .args .book) o _ _ (start .args .records .now) _ (counted .moved-count .ensures) _ (asked .if1 .taken) (ap numberOf (e .0))
-    (e .1 ∙ made .with-round .ensures ∙ ap (withRound (start .args .book)) (next .next-round .ensures)) (e .2) _ _ (sent .send-lines .ensures .0) (sent .send-lines .ensures .1)
+    sent-records (start .args .book) o _ _ (start .args .records .now) _ (counted .moved-count .ensures) _ (asked .if1 .taken)
+    (ap numberOf (e .0))
+    (e .1 ∙ made .with-round .ensures ∙ ap (withRound (start .args .book)) (next .next-round .ensures)) (e .2) _ _
+    (sent .send-lines .ensures .0) (sent .send-lines .ensures .1)
 
 same-length-3 : tie.Need-same-length-3
 same-length-3 c = search needs
@@ -51,7 +53,8 @@ returns-2 c o =
     let start : tie.Start = search in
     let counted : tie.After-moved-count = search in
     let e = c .refused .ensures in
-    sent-nothing (start .args .book) o _ _ (start .args .records .now) _ (counted .moved-count .ensures) _ (c .before .if1 .left) (ap numberOf (e .0)) (e .1) (e .2)
+    sent-nothing (start .args .book) o _ _ (start .args .records .now) _ (counted .moved-count .ensures) _ (c .before .if1 .left)
+    (ap numberOf (e .0)) (e .1) (e .2)
 
 pub send-spec : {M : Type 1} → statement M
 send-spec =

@@ -39,8 +39,13 @@ settlement-book-day-without-holder-within-requires c κs =
     let sized : tie.Else1 = search in
     let numbered : tie.After-number2 = search in
     let checked = checked-of yes in
-    let asked = asked-as _ (checked .check-book .ensures) (named-of checked .book-of .ensures) in
-    (sized .if1 .left, (lists-asked _ _ (checked .check-book .ensures), book-whole _ 0 (sym asked ∙ sym (numbered .number2 .ensures) ∙ yes .if2 .taken) .0))
+    let asked = asked-as _ (checked .check-book .ensures) (named-of checked .book-of .ensures) in (
+      sized .if1 .left,
+      (
+        lists-asked _ _ (checked .check-book .ensures),
+        book-whole _ 0 (sym asked ∙ sym (numbered .number2 .ensures) ∙ yes .if2 .taken) .0,
+      ),
+    )
 
 number-requires-3 : tie.Need-number-requires-3
 number-requires-3 c κs = search needs
@@ -65,7 +70,8 @@ returns-3 c =
     let no : tie.Else2 = search in
     let sized : tie.Else1 = search in
     let start = start-of checked in (
-      λ _. day-no-book _ (start .args .point) (checked .check-book .result) (asked-as _ (checked .check-book .ensures) (named-of checked .book-of .ensures))
+      λ _. day-no-book _ (start .args .point) (checked .check-book .result)
+          (asked-as _ (checked .check-book .ensures) (named-of checked .book-of .ensures))
           (λ z. no .if2 .left (numbered .number2 .ensures ∙ z)) _ (c .number3 .ensures) (start .args .day .now),
       λ short. absurd (short (sized .if1 .left)),
     )

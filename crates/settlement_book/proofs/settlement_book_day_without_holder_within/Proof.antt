@@ -41,7 +41,8 @@ returns c o whole =
     let start = start-of named in
     let t = put .put-day .ensures in
     day-in-numbers (worldIn (bookIn (start .args .book .now)) (lent start o)) _ _
-    (subst (λ (b : Book). DayTold (worldIn b (lent start o)) (start .args .point) (asked .day-without-holder .result)) (named .book-of .ensures)
+    (subst (λ (b : Book). DayTold (worldIn b (lent start o)) (start .args .point) (asked .day-without-holder .result))
+    (named .book-of .ensures)
     (asked .day-without-holder .ensures o (held-whole named o whole)))
     _ (t .0) _ _ (t .1)
 

@@ -34,8 +34,10 @@ put-line-requires : tie.Need-put-line-requires
 put-line-requires c κs =
     let asked : tie.After-line = search in
     let named : tie.After-book-of = search in
-    let start = start-of named in
-    (start .pre .0 .1, line-small _ _ _ _ (asked .line .ensures (start .pre .1 .0) (held-whole named (start .pre .1 .0) (start .pre .1 .1))))
+    let start = start-of named in (
+      start .pre .0 .1,
+      line-small _ _ _ _ (asked .line .ensures (start .pre .1 .0) (held-whole named (start .pre .1 .0) (start .pre .1 .1))),
+    )
 
 same-length : tie.Need-same-length
 same-length c = search needs
@@ -49,7 +51,8 @@ returns c o whole =
     let t = put .put-line .ensures in
     let a = asked .line .ensures o (held-whole named o whole) in
     line-in-numbers (worldIn (bookIn (start .args .book .now)) (lent start o)) _ _ _
-    (subst (λ (b : Book). LineAnswered (worldIn b (lent start o)) (start .args .supplier) (start .args .element) (asked .line .result)) (named .book-of .ensures) a)
+    (subst (λ (b : Book). LineAnswered (worldIn b (lent start o)) (start .args .supplier) (start .args .element) (asked .line .result))
+    (named .book-of .ensures) a)
     _ (t .0) _ _ (t .1)
 
 pub settlement-book-line-within-spec : {M : Type 1} → statement M

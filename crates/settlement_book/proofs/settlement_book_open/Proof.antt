@@ -1,4 +1,5 @@
--- The length of the book; then, where questions 2 to 4 pass, cleared tables are those of the opened book, whose numbers are put in the place of the lent ones.
+-- The length of the book; then, where questions 2 to 4 pass, cleared tables are those of the opened book, whose numbers are put in the
+-- place of the lent ones.
 use mathlib.Core.Path.{_≡_, refl, sym, ap, _∙_}
 use lib.ListN.{getD}
 use Rattle.rules.specs.declared.Book.{Book}
@@ -133,7 +134,8 @@ returns-3 c =
       (
         λ short. absurd (short (sized .if1 .left)),
         λ z. put-whole (freshIn b) _ _ n
-            (opened-whole (world start) _ (opens-world (getD b 0 0) (getD b 1 0) (getD b 2 0) (getD b 3 0) (getD b 4 0) (lent start) _ h e) h),
+            (opened-whole (world start) _ (opens-world (getD b 0 0) (getD b 1 0) (getD b 2 0) (getD b 3 0) (getD b 4 0) (lent start) _ h e)
+            h),
       ),
     )
 

@@ -49,8 +49,13 @@ settlement-book-periods-within-requires c κs =
     let rows : tie.Else2 = search in
     let numbered : tie.After-number3 = search in
     let checked = checked-of yes in
-    let asked = asked-as _ (checked .check-book .ensures) (named-of checked .book-of .ensures) in
-    ((book .if1 .left, rows .if2 .left), (lists-asked _ _ (checked .check-book .ensures), book-whole _ 0 (sym asked ∙ sym (numbered .number3 .ensures) ∙ yes .if3 .taken) .0))
+    let asked = asked-as _ (checked .check-book .ensures) (named-of checked .book-of .ensures) in (
+      (book .if1 .left, rows .if2 .left),
+      (
+        lists-asked _ _ (checked .check-book .ensures),
+        book-whole _ 0 (sym asked ∙ sym (numbered .number3 .ensures) ∙ yes .if3 .taken) .0,
+      ),
+    )
 
 number-requires-4 : tie.Need-number-requires-4
 number-requires-4 c κs = search needs
@@ -80,7 +85,8 @@ returns-4 c =
     let book : tie.Else1 = search in
     let rows : tie.Else2 = search in
     let start = start-of checked in (
-      λ _. periods-no-book _ (start .args .point) (start .args .element) _ (c .number4 .ensures ∙ asked-as _ (checked .check-book .ensures) (named-of checked .book-of .ensures))
+      λ _. periods-no-book _ (start .args .point) (start .args .element) _
+          (c .number4 .ensures ∙ asked-as _ (checked .check-book .ensures) (named-of checked .book-of .ensures))
           (λ z. no .if3 .left (numbered .number3 .ensures ∙ sym (c .number4 .ensures) ∙ z)) (start .args .rows .now),
       λ short. absurd (short (book .if1 .left, rows .if2 .left)),
     )

@@ -31,7 +31,8 @@ pair-of c = search
 abbrev found-of : tie.After-copy-front → tie.After-periods
 found-of c = search
 
-module _ (c : tie.After-ask-pair) (o : Lists) (whole : Whole (worldIn (bookIn (start-of (named-of c) .args .book .now)) (lent (start-of (named-of c)) o))) where
+module _ (c : tie.After-ask-pair) (o : Lists)
+    (whole : Whole (worldIn (bookIn (start-of (named-of c) .args .book .now)) (lent (start-of (named-of c)) o))) where
   -- the book that the numbers name is the one that is asked, and its question is the query's
   asked : numberOf (c .ask-pair .result)
       ≡ periodsNumber (worldIn (named-of c .book-of .result) (lent (start-of (named-of c)) o)) (start-of (named-of c) .args .point)
@@ -40,7 +41,8 @@ module _ (c : tie.After-ask-pair) (o : Lists) (whole : Whole (worldIn (bookIn (s
       let named = named-of c in
       let o′ = lent (start-of named) o in
       c .ask-pair .ensures
-      ∙ periods-asks (worldIn (named .book-of .result) o′) (subst (λ (b : Book). Whole (worldIn b o′)) (sym (named .book-of .ensures)) whole) _ _
+      ∙ periods-asks (worldIn (named .book-of .result) o′)
+      (subst (λ (b : Book). Whole (worldIn b o′)) (sym (named .book-of .ensures)) whole) _ _
 
 book-of-requires : tie.Need-book-of-requires
 book-of-requires c κs = search needs

@@ -18,9 +18,11 @@ use prog.Wp.{Heap, Calls, Loops, WpFn, Tables}
 use ghost.Atoms.{Atoms, sem}
 use contract.Monad.{Fun, fact}
 use contract.Running.{givenOf, tables, tablesOf}
-use types.Kit.{Given, ‵, raw, _⊛_, ⋆, some, later, _$_, _∵_, !, qed, by, move, drop, use1, use2, split, pick, fsplit, suffices, frame, await, done}
+use types.Kit.{Given, ‵, raw, _⊛_, ⋆, some, later, _$_, _∵_, !, qed, by, move, drop, use1, use2, split, pick, fsplit, suffices, frame}
+use types.Kit.{await, done}
 use types.Part.{whole, sub, look-in}
-use types.Run.{look, init, forget, stop, fld, from, load, of-opd, and-then, no-more, assigns, land, returns, enter, alloc1, alloc0, params1, pass1, pass0, free1, free0}
+use types.Run.{look, init, forget, stop, fld, from, load, of-opd, and-then, no-more, assigns, land, returns, enter, alloc1, alloc0, params1}
+use types.Run.{pass1, pass0, free1, free0}
 use sound.WpLaws.{FmC, fmOf, WpFn-mono}
 use denote.RattleType.{owns}
 use denote.Laws.{Is, shows}
@@ -49,7 +51,8 @@ use Rattle.file.proofs.fields.field_at.Symbol as decoder-def
 use Rattle.file.proofs.fields.field_at.Symbol.{name as #fields·field-at}
 use Rattle.file.proofs.fields.field_at.Met as decoder-thm
 use Rattle.file.specs.declared.reader.Reader.{Reader}
-use Rattle.file.proofs.Held.{D, L, R, Bytes, bytesVal, phaseVal, foundBy, Own, OwnBytes, typed, twice, gives, with-reader, with-bytes}
+use Rattle.file.proofs.Held.{D, L, R, Bytes, bytesVal, phaseVal, foundBy, Own, OwnBytes, typed, twice, gives, with-reader}
+use Rattle.file.proofs.Held.{with-bytes}
 use Rattle.file.proofs.reader.Reader.Laws as T′
 use Rattle.file.proofs.reader.field.Key.{name as #reader·field}
 use Rattle.file.proofs.reader.field as self

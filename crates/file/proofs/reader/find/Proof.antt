@@ -17,8 +17,10 @@ use prog.Wp.{Heap, Calls, Loops, WpFn, Tables}
 use ghost.Atoms.{Atoms, sem}
 use contract.Monad.{Fun, fact}
 use contract.Running.{givenOf, tables, tablesOf}
-use types.Kit.{Given, ‵, raw, _⊛_, ⋆, some, later, _$_, _∵_, !, qed, by, move, drop, use1, use2, split, join, pick, fsplit, fjoin, suffices, frame, await, done}
-use types.Run.{look, init, forget, stop, from, load, and-then, no-more, land, returns, enter, alloc1, alloc0, params1, pass1, pass0, free1, free0}
+use types.Kit.{Given, ‵, raw, _⊛_, ⋆, some, later, _$_, _∵_, !, qed, by, move, drop, use1, use2, split, join, pick, fsplit, fjoin, suffices}
+use types.Kit.{frame, await, done}
+use types.Run.{look, init, forget, stop, from, load, and-then, no-more, land, returns, enter, alloc1, alloc0, params1, pass1, pass0, free1}
+use types.Run.{free0}
 use sound.WpLaws.{FmC, fmOf, WpFn-mono}
 use denote.RattleType.{owns}
 use denote.Laws.{Is, shows}
@@ -44,7 +46,8 @@ use Rattle.file.proofs.fields.Phase.Laws as P′
 use Rattle.file.proofs.fields.Found as F
 use Rattle.file.proofs.fields.Found.Laws as F′
 use Rattle.file.specs.declared.reader.Reader.{Reader}
-use Rattle.file.proofs.Held.{R, Bytes, bytesVal, phaseVal, reader, foundBy, OwnBytes, typed-local, twice-bytes, with-reader, with-bytes}
+use Rattle.file.proofs.Held.{R, Bytes, bytesVal, phaseVal, reader, foundBy, OwnBytes, typed-local, twice-bytes, with-reader}
+use Rattle.file.proofs.Held.{with-bytes}
 use Rattle.file.proofs.reader.reader_at as make
 use Rattle.file.proofs.reader.reader_at.Symbol as make-def
 use Rattle.file.proofs.reader.reader_at.Symbol.{name as #reader·reader-at}

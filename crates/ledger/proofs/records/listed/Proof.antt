@@ -19,8 +19,10 @@ use ghost.Atoms.{Atoms, sem}
 use contract.Monad.{Fun, fact}
 use contract.Lifetimes.{Lfts}
 use contract.Running.{givenOf, tables, tablesOf}
-use types.Kit.{Given, Item, ‵, raw, _⊛_, some, later, ⋆, Sq, runs, atRet, _$_, _∵_, !, qed, by, move, drop, use1, use2, split, join, pick, fsplit, fjoin, feqL, suffices, frame, await, done}
-use types.Run.{look, init, forget, stop, from, load, addr, of-opd, and-then, no-more, assigns, land, returns, enter, alloc1, alloc0, params1, pass1, pass0, free1, free0, lit}
+use types.Kit.{Given, Item, ‵, raw, _⊛_, some, later, ⋆, Sq, runs, atRet, _$_, _∵_, !, qed, by, move, drop, use1, use2, split, join, pick}
+use types.Kit.{fsplit, fjoin, feqL, suffices, frame, await, done}
+use types.Run.{look, init, forget, stop, from, load, addr, of-opd, and-then, no-more, assigns, land, returns, enter, alloc1, alloc0}
+use types.Run.{params1, pass1, pass0, free1, free0, lit}
 use types.Part.{agg, rep}
 use sound.WpLaws.{FmC, fmOf, WpFn-mono}
 use denote.RattleType.{RattleType, Denots, Valss, owns}
@@ -39,7 +41,8 @@ use denote.Triple.Statement.{Contract, Triple}
 use denote.Triple.Call.{calls-at}
 use denote.Triple.Clauses.{Lasts, ensured, lasts}
 use denote.Triple.Table.{entered, cited}
-use denote.Triple.Walked.{says, needs, Stays, stay-none, stay-none-slice, walkOf, goes-none, goes-none-slice, Walks, ends-at, walked, walk-meets}
+use denote.Triple.Walked.{says, needs, Stays, stay-none, stay-none-slice, walkOf, goes-none, goes-none-slice, Walks, ends-at, walked}
+use denote.Triple.Walked.{walk-meets}
 use denote.Exit.{yes}
 use Rattle.rules.specs.declared.Record.{Record}
 use Rattle.rules.specs.Basics.{listTo}
@@ -163,7 +166,8 @@ module _ {M : Type 1} (𝓤 : URA M) (H : Heap 𝓤) (A : Atoms 𝓤) (W : Given
 
       module _ (l0 l1 l2 l3 l4 l5 l6 l7 : ℕ) where
         abbrev E : Env 𝓤 H
-        E = (tyArray T′.mir mostLines, l0) ∷ (τ-numbers, l1) ∷ (tyInt w64, l2) ∷ (tyArray T′.mir mostLines, l3) ∷ (T′.mir, l4) ∷ (tyUnit, l5)
+        E = (tyArray T′.mir mostLines, l0) ∷ (τ-numbers, l1) ∷ (tyInt w64, l2) ∷ (tyArray T′.mir mostLines, l3) ∷ (T′.mir, l4) ∷
+            (tyUnit, l5)
             ∷ (τ-ref, l6) ∷ (τ-list, l7) ∷ []
 
         -- the parameters and the place of the result
@@ -191,7 +195,8 @@ module _ {M : Type 1} (𝓤 : URA M) (H : Heap 𝓤) (A : Atoms 𝓤) (W : Given
         -- the list is filled, lent to `put_list`, and taken back
         filled : Sq W (‵ (HadShared numbers (named 0)) ∷ ‵ (froom τ-list l7 0) ∷ ‵ (fdies τ-list l7) ∷ ‵ (froom τ-ref l6 0)
             ∷ ‵ (fdies τ-ref l6) ∷ ‵ (froom tyUnit l5 0) ∷ ‵ (fdies tyUnit l5) ∷ ‵ (froom T′.mir l4 0) ∷ ‵ (fdies T′.mir l4)
-            ∷ ‵ (froom (tyArray T′.mir mostLines) l3 0) ∷ ‵ (fdies (tyArray T′.mir mostLines) l3) ∷ held) (runs C Λ E mir.t-1 (atRet E Post))
+            ∷ ‵ (froom (tyArray T′.mir mostLines) l3 0) ∷ ‵ (fdies (tyArray T′.mir mostLines) l3) ∷ held)
+            (runs C Λ E mir.t-1 (atRet E Post))
         filled =
             assigns ! (agg ! (and-then ! (lit ! tt) (and-then ! (lit ! tt) (and-then ! (lit ! tt) (and-then ! (lit ! tt)
             (and-then ! (lit ! tt) (and-then ! (lit ! tt) (no-more !)))))))) (from ! (stop !))
@@ -220,7 +225,8 @@ module _ {M : Type 1} (𝓤 : URA M) (H : Heap 𝓤) (A : Atoms 𝓤) (W : Given
             fsplit ! $ drop ! $ fsplit ! $ drop ! $ drop ! $ move ! (1 ∷ []) $ split ! $ fsplit ! $ move ! (1 ∷ []) $ fsplit ! $
             move ! (1 ∷ []) $ drop ! $ move ! (2 ∷ []) $
             feqL ! (λ is. land ! (from ! (stop !)) (init ! 9 refl (nothing-lawful 𝓤 H A W .typed tt _ is .0)) $ move ! (1 ∷ 4 ∷ 2 ∷ []) $
-            local-back ! tt R mostLines l3 ν δ (zs .0) $ move ! (2 ∷ 1 ∷ []) $ fjoin ! $ forget ! 2 refl $ forget ! 4 refl $ forget ! 6 refl $
+            local-back ! tt R mostLines l3 ν δ (zs .0) $ move !
+            (2 ∷ 1 ∷ []) $ fjoin ! $ forget ! 2 refl $ forget ! 4 refl $ forget ! 6 refl $
             move ! (1 ∷ []) $ returned (zs .0) (long ∙ blank-long) e)))))))
 
       walk : ent 𝓤 (onEntry 𝓤 H A self.signature (numbers .lifetime, tt) (numbers .share, tt) a vals)

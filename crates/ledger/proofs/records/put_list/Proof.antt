@@ -27,8 +27,11 @@ use prog.Wp.{Heap, Out, Env, afterSeq, afterBlock, afterTurn, Calls, Loops, Wp, 
 use ghost.Atoms.{Atoms, sem}
 use contract.Monad.{Fun, fact}
 use contract.Running.{givenOf, tables, tablesOf}
-use types.Kit.{Given, Item, ‵, raw, _⊛_, some, later, ⋆, Sq, runs, anyQ, atRet, _$_, _∵_, !, qed, by, move, drop, use1, use2, split, join, pick, rewrite, fsplit, fjoin, feqI, suffices, frame, await, done}
-use types.Run.{look, init, store, store-raw, forget, stop, hop, fld, from, load, lit, unit-lit, of-opd, and-then, no-more, bin, assigns, assigns-last, land, first, blocks, stays, leaves-loop, returns, enter, alloc1, alloc0, params1, pass1, pass0, free1, free0, exec, Below, again, loops}
+use types.Kit.{Given, Item, ‵, raw, _⊛_, some, later, ⋆, Sq, runs, anyQ, atRet, _$_, _∵_, !, qed, by, move, drop, use1, use2, split, join}
+use types.Kit.{pick, rewrite, fsplit, fjoin, feqI, suffices, frame, await, done}
+use types.Run.{look, init, store, store-raw, forget, stop, hop, fld, from, load, lit, unit-lit, of-opd, and-then, no-more, bin, assigns}
+use types.Run.{assigns-last, land, first, blocks, stays, leaves-loop, returns, enter, alloc1, alloc0, params1, pass1, pass0, free1, free0}
+use types.Run.{exec, Below, again, loops}
 use types.Part.{whole, sub, look-in}
 use sound.WpLaws.{FmC, fmOf, WpFn-mono}
 use borrow.Author.Tests.{lt-ltb, le-ltb}
@@ -39,7 +42,8 @@ use denote.Memory.{pointee}
 use denote.Plain.{uint-makes, uint-lawful, uint-vals, uint-tells, uint-copy}
 use denote.Builtin.{u64, usize, i64}
 use denote.Ref.{RefT}
-use denote.Slice.{sliceTy, sliceVal, MutSlice, ShrSlice, Room, heres, codedHoleys, at-slice, slice-vals, mut-slice-tells, shr-slice-tells, shr-slice-copy, shr-slice-lawful}
+use denote.Slice.{sliceTy, sliceVal, MutSlice, ShrSlice, Room, heres, codedHoleys, at-slice, slice-vals, mut-slice-tells, shr-slice-tells}
+use denote.Slice.{shr-slice-copy, shr-slice-lawful}
 use denote.Lend.{Held}
 use denote.Index.{place-is, row, elem-out, elem-put, opens-slice, closes-slice}
 use denote.Signature.{plain}
@@ -51,7 +55,8 @@ use denote.Triple.Statement.{Contract, Triple}
 use denote.Triple.Call.{calls-at}
 use denote.Triple.Clauses.{ensured, lasts}
 use denote.Triple.Table.{entered, cited}
-use denote.Triple.Walked.{says, needs, Stays, stay-slice, stay-none-slice, stay-none, walkOf, goes-slice, goes-none-slice, goes-none, Walks, ends-at, walked, walk-meets}
+use denote.Triple.Walked.{says, needs, Stays, stay-slice, stay-none-slice, stay-none, walkOf, goes-slice, goes-none-slice, goes-none, Walks}
+use denote.Triple.Walked.{ends-at, walked, walk-meets}
 use denote.Exit.{yes}
 use Rattle.rules.specs.declared.Record.{Record}
 use Rattle.rules.proofs.Record as T
@@ -96,7 +101,8 @@ below less fits = omega arith
 upto : {i n : ℕ} → n < 2 ^ 64 → i ≤ n → i < 2 ^ 64
 upto n-fits le = omega arith
 
-module _ {M : Type 1} (𝓤 : URA M) (H : Heap 𝓤) (A : Atoms 𝓤) (W : Given 𝓤 H A) (mem : Memory → SProp 𝓤) (run : Routine → Fun 𝓤) (κ κ1 : Lft) (q q1 : Share) (b o : ℕ) (γ : GName)
+module _ {M : Type 1} (𝓤 : URA M) (H : Heap 𝓤) (A : Atoms 𝓤) (W : Given 𝓤 H A) (mem : Memory → SProp 𝓤) (run : Routine → Fun 𝓤) (κ κ1 : Lft)
+    (q q1 : Share) (b o : ℕ) (γ : GName)
     (ys : List Record) (numbers : RefT (List ℤ)) (count : ℕ) where
   -- the record for place i, and the list with i of them written
   abbrev f : ℕ → Record
@@ -176,13 +182,16 @@ module _ {M : Type 1} (𝓤 : URA M) (H : Heap 𝓤) (A : Atoms 𝓤) (W : Given
     ok i less = pre .1 i less
 
     exits : (zs : List Record) → zs ≡ w count → length zs ≡ length ys
-        → ent 𝓤 (⋆ 𝓤 H A (‵ (fobs γ (codedHoleys R .code (heres R zs))) ∷ ‵ (fbor κ (Held R (length zs) b o γ)) ∷ ‵ (flft κ q) ∷ ‵ Shared ∷ [])) (Post vunit)
+        → ent 𝓤 (⋆ 𝓤 H A (‵ (fobs γ (codedHoleys R .code (heres R zs))) ∷ ‵ (fbor κ (Held R (length zs) b o γ)) ∷ ‵
+        (flft κ q) ∷ ‵ Shared ∷ [])) (Post vunit)
     exits zs e l =
         qed W (‵ (fobs γ (codedHoleys R .code (heres R zs))) ∷ ‵ (fbor κ (Held R (length zs) b o γ)) ∷ ‵ (flft κ q) ∷ ‵ Shared ∷ []) ∵
-        suffices ! _ (ends-at 𝓤 H A self.ended stayed (self.clauses 𝓤 H A mem run) W bound vunit tt (zs, (tt, (tt, tt))) (l, (tt, (tt, tt)))) $
+        suffices ! _ (ends-at 𝓤 H A self.ended stayed (self.clauses 𝓤 H A mem run) W bound vunit tt (zs, (tt, (tt, tt)))
+        (l, (tt, (tt, tt)))) $
         says ! (e ∙ front-is f count ys) $
         move ! (3 ∷ []) $ fsplit ! $ move ! (4 ∷ 1 ∷ []) $ join ! $ frame ! $ move ! (1 ∷ 2 ∷ []) $
-        fjoin ! $ pureI ! (at-slice R (x zs) (s ∷ [])) (tt, (tt, tt)) (ap (λ (m : ℕ). sliceVal (b, o) m ∷ []) (sym l), subst (Room R) (sym l) room) $ fjoin ! $ fjoin ! $
+        fjoin ! $ pureI ! (at-slice R (x zs) (s ∷ [])) (tt, (tt, tt))
+        (ap (λ (m : ℕ). sliceVal (b, o) m ∷ []) (sym l), subst (Room R) (sym l) room) $ fjoin ! $ fjoin ! $
         feqI ! (List Val) (vunit ∷ []) (vunit ∷ []) refl $ move ! (1 ∷ 0 ∷ []) $ done !
 
     -- what is passed to the callee for place i, what its triple binds outside, that the caller has what it asks, and what it says
@@ -239,47 +248,63 @@ module _ {M : Type 1} (𝓤 : URA M) (H : Heap 𝓤) (A : Atoms 𝓤) (W : Given
         τ-numbers = sliceTy (tyRef (named 1) imm (pointee (i64 .written)))
 
         abbrev E : Env 𝓤 H
-        E = (tyUnit, l₀) ∷ (τ, l₁) ∷ (τ-numbers, l₂) ∷ (tyInt w64, l₃) ∷ (tyInt w64, l₄) ∷ (tyBool, l₅) ∷ (T′.mir, l₆) ∷ (tyInt w64, l₇) ∷ (tyPtr, l₈) ∷ []
+        E = (tyUnit, l₀) ∷ (τ, l₁) ∷ (τ-numbers, l₂) ∷ (tyInt w64, l₃) ∷ (tyInt w64, l₄) ∷ (tyBool, l₅) ∷ (T′.mir, l₆) ∷ (tyInt w64, l₇) ∷
+            (tyPtr, l₈) ∷ []
 
         abbrev At : Upto → List (Item 𝓤)
-        At i = ‵ (row R fullShare (w (i .0)) b o) ∷ ‵ (fobor κ q (Held R (length ys) b o γ)) ∷ ‵ (fobs γ (codedHoleys R .code (heres R ys))) ∷ ‵ (fauth γ (codedHoleys R .code (heres R ys))) ∷ ‵ Shared
+        At i = ‵ (row R fullShare (w (i .0)) b o) ∷ ‵ (fobor κ q (Held R (length ys) b o γ)) ∷ ‵
+            (fobs γ (codedHoleys R .code (heres R ys))) ∷ ‵ (fauth γ (codedHoleys R .code (heres R ys))) ∷ ‵ Shared
             ∷ ‵ (froom tyPtr l₈ 0) ∷ ‵ (fdies tyPtr l₈) ∷ ‵ (froom (tyInt w64) l₇ 0) ∷ ‵ (fdies (tyInt w64) l₇)
             ∷ ‵ (froom T′.mir l₆ 0) ∷ ‵ (fdies T′.mir l₆) ∷ ‵ (froom tyBool l₅ 0) ∷ ‵ (fdies tyBool l₅)
-            ∷ ‵ (fat fullShare (tyInt w64) l₄ 0 (vint w64 (i .0))) ∷ ‵ (fdies (tyInt w64) l₄) ∷ ‵ (fat fullShare (tyInt w64) l₃ 0 count-val) ∷ ‵ (fdies (tyInt w64) l₃)
+            ∷ ‵ (fat fullShare (tyInt w64) l₄ 0 (vint w64 (i .0))) ∷ ‵ (fdies (tyInt w64) l₄) ∷ ‵
+            (fat fullShare (tyInt w64) l₃ 0 count-val) ∷ ‵ (fdies (tyInt w64) l₃)
             ∷ ‵ (fat fullShare τ-numbers l₂ 0 numbers-val) ∷ ‵ (fdies τ-numbers l₂)
             ∷ ‵ (fat fullShare τ l₁ 0 s) ∷ ‵ (fdies τ l₁) ∷ ‵ (froom tyUnit l₀ 0) ∷ ‵ (fdies tyUnit l₀) ∷ []
 
         -- a turn's postcondition: it ends nearer to count, or the loop is left and the rest of the body runs
         abbrev Turned : Upto → Out → SProp 𝓤
-        Turned i = afterTurn 𝓤 H (Below 𝓤 H A Nearer At i) (afterBlock 𝓤 H (afterSeq 𝓤 H (Wp 𝓤 H C Λ E mir.t-3 (atReturn 𝓤 H E Post)) (atReturn 𝓤 H E Post)))
+        Turned i = afterTurn 𝓤 H (Below 𝓤 H A Nearer At i)
+            (afterBlock 𝓤 H (afterSeq 𝓤 H (Wp 𝓤 H C Λ E mir.t-3 (atReturn 𝓤 H E Post)) (atReturn 𝓤 H E Post)))
 
         -- the record for place i is stored there
         more : (i : Upto) → i .0 < count → Sq W (At i) (runs C Λ E mir.turn-1 (anyQ (Turned i)))
         unfolding afterTurn
         more i less =
-            assigns ! (bin ! (load ! (from ! (stop !)) (look ! 13 refl)) (load ! (from ! (stop !)) (look ! 15 refl)) tt) (from ! (stop !)) (init ! 11 refl (tt, tt)) $
-            rewrite ! 11 (λ (t : Bool). ‵ (fat fullShare tyBool l₅ 0 (vbool t))) (lt-ltb (i .0) count less) refl $ stays ! (load ! (from ! (stop !)) (look ! 11 refl)) $
-            move ! (4 ∷ []) $ use1 W (raw (Nth 𝓤 H A mem run .pre (to-nth (i .0))) ⊛ ‵ Params) (goes-nth (i .0) (upto n-fits (i .1)) less) $ split ! $
+            assigns ! (bin ! (load ! (from ! (stop !)) (look ! 13 refl)) (load ! (from ! (stop !)) (look ! 15 refl)) tt) (from ! (stop !))
+            (init ! 11 refl (tt, tt)) $
+            rewrite ! 11 (λ (t : Bool). ‵ (fat fullShare tyBool l₅ 0 (vbool t))) (lt-ltb (i .0) count less) refl $ stays !
+            (load ! (from ! (stop !)) (look ! 11 refl)) $
+            move ! (4 ∷ []) $ use1 W (raw (Nth 𝓤 H A mem run .pre (to-nth (i .0))) ⊛ ‵ Params)
+            (goes-nth (i .0) (upto n-fits (i .1)) less) $ split ! $
             -- [what the callee asks; the parameters; the row; the open borrow; obs; auth; the locals, the last first]
             calls-at ! fm (Nth 𝓤 H A mem run) known (to-nth (i .0))
-            (and-then ! (load ! (from ! (stop !)) (look ! 18 refl)) (and-then ! (load ! (from ! (stop !)) (look ! 14 refl)) (no-more !))) (λ v.
-            use1 W (later (some (λ (r : Record). (‵ Toks ⊛ ‵ (R .own r (v ∷ []))) ⊛ raw (ensured 𝓤 H A nth.ended (nth.clauses 𝓤 H A mem run) κs′ (passed (i .0)) tt r)))) (id⊢ 𝓤 _) $ await ! tt $
+            (and-then ! (load ! (from ! (stop !)) (look ! 18 refl)) (and-then ! (load ! (from ! (stop !)) (look ! 14 refl)) (no-more !)))
+            (λ v.
+            use1 W (later (some (λ (r : Record). (‵ Toks ⊛ ‵ (R .own r (v ∷ []))) ⊛ raw
+            (ensured 𝓤 H A nth.ended (nth.clauses 𝓤 H A mem run) κs′ (passed (i .0)) tt r)))) (id⊢ 𝓤 _) $ await ! tt $
             pick ! (λ r.
             split ! $ move ! (1 ∷ []) $ use1 W (raw (fact 𝓤 (r ≡ f (i .0)))) (said-nth (i .0) r) $ heard ! (r ≡ f (i .0)) (λ eq.
-            split ! $ move ! (1 ∷ []) $ rewrite ! 0 (λ (h : Record). ‵ (R .own h (v ∷ []))) eq refl $ peeks ! R (Is R) (shows 𝓤 H A R) (f (i .0)) (v ∷ []) (λ is.
+            split ! $ move ! (1 ∷ []) $ rewrite ! 0 (λ (h : Record). ‵ (R .own h (v ∷ []))) eq refl $ peeks ! R (Is R) (shows 𝓤 H A R)
+            (f (i .0)) (v ∷ []) (λ is.
             land ! (from ! (stop !)) (init ! 11 refl (LL.lawful T.the-type T′.the-laws 𝓤 H A W .typed (f (i .0)) _ is .0)) $
             rewrite ! 11 (λ (u : Val). ‵ (fat fullShare T′.mir l₆ 0 u)) (ap only (spelt is)) refl $ drop ! $ move ! (1 ∷ 0 ∷ []) $ fjoin ! $
             -- [the parameters and their tokens; the row; the open borrow; obs; auth; the locals]
-            assigns ! (bin ! (load ! (from ! (stop !)) (look ! 13 refl)) (lit ! tt) (record { fits = mul-fits (room .1) less fits })) (from ! (stop !)) (init ! 7 refl (tt, record { fits = mul-fits (room .1) less fits })) $
-            assigns ! (bin ! (load ! (from ! (fld ! refl (stop !))) (look-in ! 19 (sub ! 0 refl (whole !)))) (load ! (from ! (stop !)) (look ! 7 refl)) tt) (from ! (stop !)) (init ! 5 refl (tt, tt)) $
+            assigns ! (bin ! (load ! (from ! (stop !)) (look ! 13 refl)) (lit ! tt) (record { fits = mul-fits (room .1) less fits }))
+            (from ! (stop !)) (init ! 7 refl (tt, record { fits = mul-fits (room .1) less fits })) $
+            assigns ! (bin ! (load ! (from ! (fld ! refl (stop !))) (look-in ! 19 (sub ! 0 refl (whole !))))
+            (load ! (from ! (stop !)) (look ! 7 refl)) tt) (from ! (stop !)) (init ! 5 refl (tt, tt)) $
             rewrite ! 5 (λ (p : ℕ). ‵ (fat fullShare tyPtr l₈ 0 (vptr b p))) (sym (place-is 48 o (i .0))) refl $ move ! (1 ∷ []) $
-            elem-out ! R (Is R) (shows 𝓤 H A R) (LL.vals T.the-type T′.the-laws) (LL.tells T.the-type T′.the-laws) fullShare (w (i .0)) (i .0) (f (i .0)) b o within (λ _.
+            elem-out ! R (Is R) (shows 𝓤 H A R) (LL.vals T.the-type T′.the-laws) (LL.tells T.the-type T′.the-laws) fullShare (w (i .0))
+            (i .0) (f (i .0)) b o within (λ _.
             -- [list[i]; what it owns; the others; the parameters and their tokens; the open borrow; obs; auth; the locals]
-            assigns ! (of-opd ! (load ! (from ! (stop !)) (look ! 11 refl))) (from ! (hop ! (look ! 7 refl) (stop !))) (store-raw ! 0 refl (LL.lawful T.the-type T′.the-laws 𝓤 H A W .typed (f (i .0)) _ (is-mach is) .0)) $
-            move ! (1 ∷ []) $ drop ! $ owned ! R (Is R) ((LL.makes T.the-type T′.the-plain) 𝓤 H A) (f (i .0)) _ (is-mach is) $ move ! (1 ∷ 0 ∷ []) $
+            assigns ! (of-opd ! (load ! (from ! (stop !)) (look ! 11 refl))) (from ! (hop ! (look ! 7 refl) (stop !)))
+            (store-raw ! 0 refl (LL.lawful T.the-type T′.the-laws 𝓤 H A W .typed (f (i .0)) _ (is-mach is) .0)) $
+            move ! (1 ∷ []) $ drop ! $ owned ! R (Is R) ((LL.makes T.the-type T′.the-plain) 𝓤 H A) (f (i .0)) _ (is-mach is) $ move !
+            (1 ∷ 0 ∷ []) $
             elem-put ! R fullShare (w (i .0)) (i .0) (f (i .0)) (mach (i .0) ∷ []) b o within $
             rewrite ! 0 (λ (zs : List Record). ‵ (row R fullShare zs b o)) (sym (front-more f (i .0) ys (below less fits))) refl $
-            assigns-last ! (bin ! (load ! (from ! (stop !)) (look ! 13 refl)) (lit ! tt) (record { fits = next-fits n-fits less })) (from ! (stop !)) (store ! 13 refl (tt, record { fits = next-fits n-fits less })) $
+            assigns-last ! (bin ! (load ! (from ! (stop !)) (look ! 13 refl)) (lit ! tt) (record { fits = next-fits n-fits less }))
+            (from ! (stop !)) (store ! 13 refl (tt, record { fits = next-fits n-fits less })) $
             forget ! 5 refl $ forget ! 7 refl $ forget ! 9 refl $ forget ! 11 refl $ move ! (0 ∷ 2 ∷ 3 ∷ 4 ∷ 1 ∷ []) $
             again ! Nearer At i (i .0 + 1, add-one-le less) (add-one-dec count (i .0) less))))))
           where
@@ -296,15 +321,19 @@ module _ {M : Type 1} (𝓤 : URA M) (H : Heap 𝓤) (A : Atoms 𝓤) (W : Given
         ends : (i : Upto) → i .0 ≡ count → Sq W (At i) (runs C Λ E mir.turn-1 (anyQ (Turned i)))
         unfolding afterTurn
         ends i e =
-            assigns ! (bin ! (load ! (from ! (stop !)) (look ! 13 refl)) (load ! (from ! (stop !)) (look ! 15 refl)) tt) (from ! (stop !)) (init ! 11 refl (tt, tt)) $
-            rewrite ! 11 (λ (t : Bool). ‵ (fat fullShare tyBool l₅ 0 (vbool t))) (le-ltb (i .0) count (le-of-eq (sym e))) refl $ leaves-loop ! (load ! (from ! (stop !)) (look ! 11 refl)) $
+            assigns ! (bin ! (load ! (from ! (stop !)) (look ! 13 refl)) (load ! (from ! (stop !)) (look ! 15 refl)) tt) (from ! (stop !))
+            (init ! 11 refl (tt, tt)) $
+            rewrite ! 11 (λ (t : Bool). ‵ (fat fullShare tyBool l₅ 0 (vbool t)))
+            (le-ltb (i .0) count (le-of-eq (sym e))) refl $ leaves-loop ! (load ! (from ! (stop !)) (look ! 11 refl)) $
             exec ! C Λ E mir.t-3 (atRet E Post) $
             closes-slice ! tt R ys (w (i .0)) (long (i .0) (i .1)) b o $
             -- [obs; the borrow; the token; the parameters and their tokens; the locals]
             assigns ! (of-opd ! (unit-lit !)) (from ! (stop !)) (init ! 20 refl (tt, tt)) $
-            returns ! (look ! 20 refl) $ forget ! 10 refl $ forget ! 12 refl $ forget ! 14 refl $ forget ! 16 refl $ forget ! 18 refl $ forget ! 20 refl $
+            returns ! (look ! 20 refl) $ forget ! 10 refl $ forget ! 12 refl $ forget ! 14 refl $ forget ! 16 refl $ forget ! 18 refl $
+            forget ! 20 refl $
             move ! (20 ∷ 21 ∷ []) $ free1 ! $ move ! (18 ∷ 19 ∷ []) $ free1 ! $ move ! (16 ∷ 17 ∷ []) $ free1 ! $
-            move ! (14 ∷ 15 ∷ []) $ free1 ! $ move ! (12 ∷ 13 ∷ []) $ free1 ! $ move ! (10 ∷ 11 ∷ []) $ free1 ! $ move ! (8 ∷ 9 ∷ []) $ free1 ! $
+            move ! (14 ∷ 15 ∷ []) $ free1 ! $ move ! (12 ∷ 13 ∷ []) $ free1 ! $ move ! (10 ∷ 11 ∷ []) $ free1 ! $ move !
+            (8 ∷ 9 ∷ []) $ free1 ! $
             move ! (6 ∷ 7 ∷ []) $ free1 ! $ move ! (4 ∷ 5 ∷ []) $ free1 ! $ free0 ! $
             by ! (exits (w (i .0)) (ap w e) (long (i .0) (i .1)))
 
@@ -315,13 +344,16 @@ module _ {M : Type 1} (𝓤 : URA M) (H : Heap 𝓤) (A : Atoms 𝓤) (W : Given
         looped : Sq W (‵ Shared ∷ ‵ (MutSlice (named 0) κ R .own (x ys) (s ∷ [])) ∷ ‵ (flft κ q)
             ∷ ‵ (froom tyPtr l₈ 0) ∷ ‵ (fdies tyPtr l₈) ∷ ‵ (froom (tyInt w64) l₇ 0) ∷ ‵ (fdies (tyInt w64) l₇)
             ∷ ‵ (froom T′.mir l₆ 0) ∷ ‵ (fdies T′.mir l₆) ∷ ‵ (froom tyBool l₅ 0) ∷ ‵ (fdies tyBool l₅)
-            ∷ ‵ (froom (tyInt w64) l₄ 0) ∷ ‵ (fdies (tyInt w64) l₄) ∷ ‵ (fat fullShare (tyInt w64) l₃ 0 count-val) ∷ ‵ (fdies (tyInt w64) l₃)
+            ∷ ‵ (froom (tyInt w64) l₄ 0) ∷ ‵ (fdies (tyInt w64) l₄) ∷ ‵ (fat fullShare (tyInt w64) l₃ 0 count-val) ∷ ‵
+            (fdies (tyInt w64) l₃)
             ∷ ‵ (fat fullShare τ-numbers l₂ 0 numbers-val) ∷ ‵ (fdies τ-numbers l₂)
-            ∷ ‵ (fat fullShare τ l₁ 0 s) ∷ ‵ (fdies τ l₁) ∷ ‵ (froom tyUnit l₀ 0) ∷ ‵ (fdies tyUnit l₀) ∷ []) (runs C Λ E mir.t-1 (atRet E Post))
+            ∷ ‵ (fat fullShare τ l₁ 0 s) ∷ ‵ (fdies τ l₁) ∷ ‵ (froom tyUnit l₀ 0) ∷ ‵ (fdies tyUnit l₀) ∷ [])
+            (runs C Λ E mir.t-1 (atRet E Post))
         looped =
             assigns ! (of-opd ! (lit ! tt)) (from ! (stop !)) (init ! 11 refl (tt, record { fits = lit< tt })) $
             move ! (1 ∷ []) $ fsplit ! $ move ! (1 ∷ []) $ fsplit ! $ move ! (0 ∷ 1 ∷ 4 ∷ []) $
-            opens-slice ! tt R ys b o $ rewrite ! 0 (λ (zs : List Record). ‵ (row R fullShare zs b o)) (sym (front-none f ys)) refl $ move ! (4 ∷ []) $ drop ! $
+            opens-slice ! tt R ys b o $ rewrite ! 0 (λ (zs : List Record). ‵ (row R fullShare zs b o)) (sym (front-none f ys)) refl $ move !
+            (4 ∷ []) $ drop ! $
             first ! $ blocks ! $ loops ! 𝓣 Nearer Nearer-wf At turns (0, zero-le)
 
       walk : ent 𝓤 (onEntry 𝓤 H A self.signature (κ, (κ1, tt)) (q, (q1, tt)) a vals)
@@ -340,7 +372,8 @@ module _ {M : Type 1} (𝓤 : URA M) (H : Heap 𝓤) (A : Atoms 𝓤) (W : Given
           looped l₀ l₁ l₂ l₃ l₄ l₅ l₆ l₇ l₈)))))))))
 
 module _ {M : Type 1} (𝓤 : URA M) (H : Heap 𝓤) (A : Atoms 𝓤) (W : Given 𝓤 H A) (mem : Memory → SProp 𝓤) (run : Routine → Fun 𝓤) where
-  put-list-walks : (𝓣 : Tables 𝓤 H) → Triple 𝓤 (𝓣 .C #records·record-at) (Nth 𝓤 H A mem run) → Walks 𝓤 H A self.ended stayed (WpFn 𝓤 H (𝓣 .C) (𝓣 .Λ) code.function) (self.clauses 𝓤 H A mem run)
+  put-list-walks : (𝓣 : Tables 𝓤 H) → Triple 𝓤 (𝓣 .C #records·record-at) (Nth 𝓤 H A mem run)
+      → Walks 𝓤 H A self.ended stayed (WpFn 𝓤 H (𝓣 .C) (𝓣 .Λ) code.function) (self.clauses 𝓤 H A mem run)
   put-list-walks 𝓣 known = walked 𝓤 H A self.ended stayed (self.clauses 𝓤 H A mem run) (WpFn 𝓤 H (𝓣 .C) (𝓣 .Λ) code.function)
       (λ κs. (slice-vals, (slice-vals, (uint-vals w64, tt))))
       (λ κs. (mut-slice-tells (named 0) (κs .0) R, (shr-slice-tells (named 1) (κs .1 .0) i64, (uint-tells w64, tt))))
@@ -348,7 +381,8 @@ module _ {M : Type 1} (𝓤 : URA M) (H : Heap 𝓤) (A : Atoms 𝓤) (W : Given
       walk 𝓤 H A W mem run (κs .0) (κs .1 .0) (qs .0) (qs .1 .0) (a .0 .ptr .0) (a .0 .ptr .1) (a .0 .name) (a .0 .now) (a .1 .0)
       (a .1 .1 .0) (are .1 .0) (are .1 .1 .0) (are .0 .0 .1) pre 𝓣 (fmOf 𝓤 H (W .laws) 𝓣) known))
 
-put-list-meets : {M : Type 1} (𝓤 : URA M) (H : Heap 𝓤) (A : Atoms 𝓤) → Given 𝓤 H A → (mem : Memory → SProp 𝓤) (run : Routine → Fun 𝓤) (𝓣 : Tables 𝓤 H)
+put-list-meets : {M : Type 1} (𝓤 : URA M) (H : Heap 𝓤) (A : Atoms 𝓤) → Given 𝓤 H A
+    → (mem : Memory → SProp 𝓤) (run : Routine → Fun 𝓤) (𝓣 : Tables 𝓤 H)
     → Triple 𝓤 (𝓣 .C #records·record-at) (Nth 𝓤 H A mem run)
     → Meets 𝓤 H A self.signature (WpFn 𝓤 H (𝓣 .C) (𝓣 .Λ) code.function) (self.spec 𝓤 H A mem run)
 put-list-meets 𝓤 H A W mem run 𝓣 known =
@@ -367,4 +401,5 @@ put-list-spec 𝓤 H 𝓜 𝓖 𝓡 =
     entered 𝓤 H (tripleOf 𝓤 H (𝓖 .A) self.signature (self.spec 𝓤 H (𝓖 .A) (𝓜 .mem) (𝓡 .run)))
     (tables 𝓤 H 𝓜 𝓡 code.env .C) (tables 𝓤 H 𝓜 𝓡 code.env .Λ) #records·put-list code.function (code.unfolded 𝓤 H 𝓜 𝓡)
     (put-list-meets 𝓤 H (𝓖 .A) (givenOf 𝓤 H 𝓜 𝓖) (𝓜 .mem) (𝓡 .run) (tablesOf 𝓤 H 𝓜 (tables 𝓤 H 𝓜 𝓡 code.env))
-    (cited 𝓤 H (Nth 𝓤 H (𝓖 .A) (𝓜 .mem) (𝓡 .run)) 𝓜 𝓡 code.env #records·record-at nth-def.routine code.calls-ledger·records·record-at (nth-thm.met 𝓤 H 𝓜 𝓖 𝓡)))
+    (cited 𝓤 H (Nth 𝓤 H (𝓖 .A) (𝓜 .mem) (𝓡 .run)) 𝓜 𝓡 code.env #records·record-at nth-def.routine code.calls-ledger·records·record-at
+    (nth-thm.met 𝓤 H 𝓜 𝓖 𝓡)))

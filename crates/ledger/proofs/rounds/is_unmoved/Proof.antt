@@ -62,11 +62,14 @@ returns c =
     let start : tie.Start = search in
     let a = start .args in
     let then1 : tie.Then1 = search in
-    let q = bits-same (record { sfits = then1 .before .before .if12 .given }) (record { sfits = then1 .before .if13 .given }) (then1 .if1 .taken) in
+    let q = bits-same (record { sfits = then1 .before .before .if12 .given }) (record { sfits = then1 .before .if13 .given })
+    (then1 .if1 .taken) in
     let then2 : tie.Then2 = search in
-    let k = bits-same (record { sfits = then2 .before .before .if22 .given }) (record { sfits = then2 .before .if23 .given }) (then2 .if2 .taken) in
+    let k = bits-same (record { sfits = then2 .before .before .if22 .given }) (record { sfits = then2 .before .if23 .given })
+    (then2 .if2 .taken) in
     same-test _ _
-    (λ e. same-unmoved (a .lines .now) (a .sent .now) (a .at) q k (bits-same (record { sfits = c .before .result .given }) (record { sfits = c .result2 .given }) (eqb-true _ _ e)))
+    (λ e. same-unmoved (a .lines .now) (a .sent .now) (a .at) q k
+    (bits-same (record { sfits = c .before .result .given }) (record { sfits = c .result2 .given }) (eqb-true _ _ e)))
     (λ u. eq-eqb _ _ (ap (ofZ w64) (billionths-same (a .lines .now) (a .sent .now) (a .at) (start .pre) u)))
 
 returns-2 : tie.Need-returns-2

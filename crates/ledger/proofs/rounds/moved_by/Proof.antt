@@ -19,7 +19,8 @@ unfolding movedBy
 returns c =
     let a = c .before .before .line-at .ensures in
     let b = c .before .line-at2 .ensures in
-    rw (a .quantity, a .kroner, a .billionths, amount-back, b .quantity, b .kroner, b .billionths, amount-back) at (c .line-difference .ensures)
+    rw (a .quantity, a .kroner, a .billionths, amount-back, b .quantity, b .kroner, b .billionths, amount-back) at
+    (c .line-difference .ensures)
 
 pub moved-by-spec : {M : Type 1} → statement M
 moved-by-spec =

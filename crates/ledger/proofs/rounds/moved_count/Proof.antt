@@ -41,7 +41,8 @@ add-n c =
     let turn : tie.At-loop Inv-loop μ-loop = search in
     let e = turn .loop .inv .1 in
     let m = count-few (start .args .lines .now) (start .args .sent .now) (turn .loop .k) in
-    let o = zero-or-one (unmovedAt (start .args .lines .now) (start .args .sent .now) (turn .loop .k * lineSize)) (c .moved-one .result) (c .moved-one .ensures) in
+    let o = zero-or-one (unmovedAt (start .args .lines .now) (start .args .sent .now) (turn .loop .k * lineSize)) (c .moved-one .result)
+    (c .moved-one .ensures) in
     record { fits = omega arith }
 
 add-k : tie.Need-add-k Inv-loop μ-loop
@@ -56,8 +57,10 @@ loop-less c = search needs
 loop-again : tie.Need-loop-again Inv-loop μ-loop
 loop-again c =
     let start : tie.Start Inv-loop μ-loop = search in
-    let turn : tie.At-loop Inv-loop μ-loop = search in
-    (omega arith, rw (turn .loop .inv .1, c .moved-one .ensures) (sym (count-more (start .args .lines .now) (start .args .sent .now) (turn .loop .k))))
+    let turn : tie.At-loop Inv-loop μ-loop = search in (
+      omega arith,
+      rw (turn .loop .inv .1, c .moved-one .ensures) (sym (count-more (start .args .lines .now) (start .args .sent .now) (turn .loop .k))),
+    )
 
 returns : tie.Need-returns Inv-loop μ-loop
 returns c =

@@ -91,7 +91,8 @@ returns c =
       abs-back (a .quantity) (h .quantity),
       abs-back (a .kroner) (h .kroner),
       cast-is (a .billionths) (h .billionths),
-    ) (six-stores (x .out .now) (x .at) (pos (a .kind)) (pos (a .supplier)) (pos (a .element)) (a .quantity) (a .kroner) (pos (a .billionths)))
+    ) (six-stores (x .out .now) (x .at) (pos (a .kind)) (pos (a .supplier)) (pos (a .element)) (a .quantity) (a .kroner)
+    (pos (a .billionths)))
 
 pub put-record-spec : {M : Type 1} → statement M
 put-record-spec =

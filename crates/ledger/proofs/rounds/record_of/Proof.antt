@@ -27,7 +27,13 @@ add-t9 c =
     let s = c .before .before in
     let b = s .args .book in
     let p = s .pre in
-    record { fits = omega (arith, div-le-self (s .args .k) (b .elements), few-lines (b .suppliers) (b .elements) (p .suppliers) (p .elements)) }
+    record {
+      fits = omega (
+        arith,
+        div-le-self (s .args .k) (b .elements),
+        few-lines (b .suppliers) (b .elements) (p .suppliers) (p .elements),
+      );
+    }
 
 rem-t10 : tie.Need-rem-t10
 rem-t10 c = has-elements (c .before .before .before)
@@ -42,7 +48,10 @@ returns c =
     let n = few-lines (b .suppliers) (b .elements) (p .suppliers) (p .elements) in
     let h = mod-lt (s .args .k) (has-elements s) in
     let l = p .elements in
-    rw (abs-back (m .moved-by .result .quantity) (omega (arith, g .quantity-small)), abs-back (m .moved-by .result .kroner) (omega (arith, g .kroner-small))) (
+    rw (
+      abs-back (m .moved-by .result .quantity) (omega (arith, g .quantity-small)),
+      abs-back (m .moved-by .result .kroner) (omega (arith, g .kroner-small)),
+    ) (
       record {
         kind = omega (arith, p .round-high);
         supplier = omega (arith, div-le-self (s .args .k) (b .elements), p .below);

@@ -7,7 +7,8 @@ use Rattle.ledger.specs.RecordNumbers.{numbersAfter}
 use Rattle.ledger.proofs.RecordNumbers.{numbers-none}
 use Rattle.rules.specs.Sizes.{lineSize, mostLines}
 use Rattle.rules.proofs.Parts.{few-lines}
-use Rattle.ledger.proofs.RoundLaws.{count-none, count-few, records-none, length-copied, copied-whole, list-long, turn-sendable, turn-room, turn-done}
+use Rattle.ledger.proofs.RoundLaws.{count-none, count-few, records-none, length-copied, copied-whole, list-long, turn-sendable}
+use Rattle.ledger.proofs.RoundLaws.{turn-room, turn-done}
 use native.Mathlib.Omega.{arith}
 use borrow.Author.Needs.{needs}
 use Rattle.ledger.proofs.rounds.send_lines.Statement.{statement}
@@ -48,7 +49,8 @@ send-line-requires c κs =
     let e = l .inv .2 in
     let n : l .n ≤ mostLines = omega arith in
     let s = turn-sendable (a .book) (a .lines .now) (a .sent .now) (a .records .now) (start .pre .0) (start .pre .1) (l .k) (omega arith) in
-    let r = turn-room (a .book) (a .lines .now) (a .sent .now) (a .records .now) (start .pre .0) (start .pre .1) (l .k) (omega arith) (l .n) e in
+    let r = turn-room (a .book) (a .lines .now) (a .sent .now) (a .records .now) (start .pre .0) (start .pre .1) (l .k) (omega arith)
+    (l .n) e in
     rw (l .inv .1, l .inv .3) (s, (n, r))
 
 add-k : tie.Need-add-k Inv-loop μ-loop
@@ -78,7 +80,8 @@ same-length c =
     let a = start .args in
     let h = start .pre .0 in
     let turn : tie.At-loop Inv-loop μ-loop = search in
-    rw (turn .loop .inv .1) (length-copied (a .lines .now) (a .sent .now) (h .lines ∙ sym (h .totals)) (turn .loop .k * lineSize) (omega (arith, h .lines)))
+    rw (turn .loop .inv .1) (length-copied (a .lines .now) (a .sent .now) (h .lines ∙ sym (h .totals)) (turn .loop .k * lineSize)
+    (omega (arith, h .lines)))
 
 same-length-2 : tie.Need-same-length-2 Inv-loop μ-loop
 same-length-2 c =
@@ -86,7 +89,8 @@ same-length-2 c =
     let a = start .args in
     let turn : tie.At-loop Inv-loop μ-loop = search in
     rw (turn .loop .inv .3)
-    (list-long (a .book) (a .lines .now) (a .sent .now) (a .records .now) (start .pre .0) (start .pre .1) (turn .loop .k) (turn .loop .inv .0))
+    (list-long (a .book) (a .lines .now) (a .sent .now) (a .records .now) (start .pre .0) (start .pre .1) (turn .loop .k)
+    (turn .loop .inv .0))
 
 returns : tie.Need-returns Inv-loop μ-loop
 returns c =

@@ -64,7 +64,8 @@ returns : tie.Need-returns
 returns c o =
     let start : tie.Start = search in
     let known : tie.After-enum-told = search in
-    link-count (start .args .book) (lent start o) (start .pre .0) _ (start .pre .1) _ _ _ _ (known .enum-told .given .1) _ (c .has-room .ensures)
+    link-count (start .args .book) (lent start o) (start .pre .0) _ (start .pre .1) _ _ _ _ (known .enum-told .given .1) _
+    (c .has-room .ensures)
 
 returns-2 : tie.Need-returns-2
 returns-2 c o =

@@ -28,7 +28,8 @@ write-period-requires c κs =
     let known : tie.After-body = search in
     let a = start .args in
     let f = fields start (known .body .given .1) in
-    let room = link-room (a .book) (lent start noLists) (start .pre .0) _ (start .pre .1 .0 .0) (start .pre .1 .1 noLists) _ _ _ _ (known .body .given .1) in
+    let room = link-room (a .book) (lent start noLists) (start .pre .0) _ (start .pre .1 .0 .0) (start .pre .1 .1 noLists) _ _ _ _
+    (known .body .given .1) in
     ((start .pre .0 .links, start .pre .0 .links-clear, room), (f .0, f .1, start .pre .1 .0 .1, f .2))
 
 using-periods-requires : tie.Need-using-periods-requires
@@ -56,7 +57,8 @@ split-requires c κs =
     let known : tie.After-body3 = search in
     let a = start .args in
     let f = fields start (known .body3 .given .1) in
-    let room = quantity-room (a .book) (lent start noLists) (start .pre .0) _ (start .pre .1 .0 .0) (start .pre .1 .1 noLists) _ _ _ _ (known .body3 .given .1) in
+    let room = quantity-room (a .book) (lent start noLists) (start .pre .0) _ (start .pre .1 .0 .0) (start .pre .1 .1 noLists) _ _ _ _
+    (known .body3 .given .1) in
     (start .pre .0 .links-clear, (start .pre .0 .links, (f .0, (f .1, (f .2, room)))))
 
 using-periods-requires-3 : tie.Need-using-periods-requires-3
@@ -71,8 +73,11 @@ write-value-requires c κs =
     let known : tie.After-body4 = search in
     let a = start .args in
     let f = fields start (known .body4 .given .1) in
-    let room = holder-room (a .book) (lent start noLists) (start .pre .0) _ (start .pre .1 .0 .0) (start .pre .1 .1 noLists) _ _ _ (known .body4 .given .1) in
-    ((start .pre .0 .holders, start .pre .0 .holders-clear), ((record { some = omega arith; point = omega arith }, record { day = omega arith }, f .2), room))
+    let room = holder-room (a .book) (lent start noLists) (start .pre .0) _ (start .pre .1 .0 .0) (start .pre .1 .1 noLists) _ _ _
+    (known .body4 .given .1) in (
+      (start .pre .0 .holders, start .pre .0 .holders-clear),
+      ((record { some = omega arith; point = omega arith }, record { day = omega arith }, f .2), room),
+    )
 
 using-holders-requires : tie.Need-using-holders-requires
 using-holders-requires c κs = search needs
@@ -86,8 +91,11 @@ write-value-requires-2 c κs =
     let known : tie.After-body5 = search in
     let a = start .args in
     let f = fields start (known .body5 .given .1) in
-    let room = state-room (a .book) (lent start noLists) (start .pre .0) _ (start .pre .1 .0 .0) (start .pre .1 .1 noLists) _ _ _ (known .body5 .given .1) in
-    ((start .pre .0 .states, start .pre .0 .states-clear), ((record { some = omega arith; point = omega arith }, record { day = omega arith }, f .2), room))
+    let room = state-room (a .book) (lent start noLists) (start .pre .0) _ (start .pre .1 .0 .0) (start .pre .1 .1 noLists) _ _ _
+    (known .body5 .given .1) in (
+      (start .pre .0 .states, start .pre .0 .states-clear),
+      ((record { some = omega arith; point = omega arith }, record { day = omega arith }, f .2), room),
+    )
 
 using-states-requires : tie.Need-using-states-requires
 using-states-requires c κs = search needs
@@ -101,7 +109,8 @@ returns c o e =
     let known : tie.After-body = search in
     let wrote : tie.After-write-period = search in
     let counted : tie.After-using-periods = search in
-    link-left (start .args .book) (lent start o) _ _ _ _ _ (known .body .given .1) e (wrote .write-period .ensures) (counted .using-periods .ensures)
+    link-left (start .args .book) (lent start o) _ _ _ _ _ (known .body .given .1) e (wrote .write-period .ensures)
+    (counted .using-periods .ensures)
 
 same-length-2 : tie.Need-same-length-2
 same-length-2 c = search needs
@@ -123,7 +132,8 @@ returns-3 c o e =
     let known : tie.After-body3 = search in
     let wrote : tie.After-split = search in
     let counted : tie.After-using-periods3 = search in
-    quantity-left (start .args .book) (lent start o) _ _ _ _ (known .body3 .given .1) (wrote .split .ensures) (counted .using-periods3 .ensures)
+    quantity-left (start .args .book) (lent start o) _ _ _ _ (known .body3 .given .1) (wrote .split .ensures)
+    (counted .using-periods3 .ensures)
 
 same-length-4 : tie.Need-same-length-4
 same-length-4 c = search needs
@@ -134,7 +144,8 @@ returns-4 c o e =
     let known : tie.After-body4 = search in
     let wrote : tie.After-write-value = search in
     let counted : tie.After-using-holders = search in
-    holder-left (start .args .book) (lent start o) _ _ _ (known .body4 .given .1) (wrote .write-value .ensures) (counted .using-holders .ensures)
+    holder-left (start .args .book) (lent start o) _ _ _ (known .body4 .given .1) (wrote .write-value .ensures)
+    (counted .using-holders .ensures)
 
 same-length-5 : tie.Need-same-length-5
 same-length-5 c = search needs
@@ -145,7 +156,8 @@ returns-5 c o e =
     let known : tie.After-body5 = search in
     let wrote : tie.After-write-value2 = search in
     let counted : tie.After-using-states = search in
-    state-left (start .args .book) (lent start o) _ _ _ (known .body5 .given .1) (wrote .write-value2 .ensures) (counted .using-states .ensures)
+    state-left (start .args .book) (lent start o) _ _ _ (known .body5 .given .1) (wrote .write-value2 .ensures)
+    (counted .using-states .ensures)
 
 returns-6 : tie.Need-returns-6
 returns-6 c o e =

@@ -30,7 +30,8 @@ loop-less : tie.Need-loop-less Inv-loop μ-loop
 loop-less c = search needs
 
 loop-again : tie.Need-loop-again Inv-loop μ-loop
-loop-again c = let l = c .before .loop in cleared-more (pos 0) (c .before .before .args .lines .now) (l .lines) (l .i) (l .inv) (omega arith)
+loop-again c = let l = c .before .loop in
+    cleared-more (pos 0) (c .before .before .args .lines .now) (l .lines) (l .i) (l .inv) (omega arith)
 
 same-length : tie.Need-same-length Inv-loop μ-loop
 same-length c = search needs

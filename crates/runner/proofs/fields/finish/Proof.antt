@@ -37,7 +37,8 @@ returns-2 c =
     let no : tie.Else1 = search in
     let done : tie.After-refuse = search in
     let a = start .args in (
-      λ t w n bytes. rw (messages-else (a .at) bytes w n (a .found) (start .pre .1) (sym (told .is-end .ensures) ∙ no .if1 .left) (start .pre .2))
+      λ t w n bytes. rw (messages-else (a .at) bytes w n (a .found) (start .pre .1) (sym (told .is-end .ensures) ∙ no .if1 .left)
+          (start .pre .2))
           (done .refuse .ensures .0 t),
       done .refuse .ensures .1,
     )

@@ -24,7 +24,8 @@ returns c =
     let done : tie.After-refuse = search in
     let a = start .args in
     let p = start .pre .1 .0 in (
-      λ h values o v. rw (elements-else (a .at) (a .s .now) h values (a .found) (arm .match .keys2) (p .1) (p .2)) (done .refuse .ensures .0 _),
+      λ h values o v. rw (elements-else (a .at) (a .s .now) h values (a .found) (arm .match .keys2) (p .1) (p .2))
+          (done .refuse .ensures .0 _),
       done .refuse .ensures .1,
     )
 
@@ -51,7 +52,8 @@ returns-2 c =
     let took : tie.After-take-element = search in
     let a = start .args in (
       λ h values o v. rw (known .found .given .1)
-          (arm-element (a .at) _ _ _ (a .s .now) h values (lendElements _ _ o) _ _ _ _ (took .take-element .ensures h values v) (c .moved .ensures)),
+          (arm-element (a .at) _ _ _ (a .s .now) h values (lendElements _ _ o) _ _ _ _ (took .take-element .ensures h values v)
+          (c .moved .ensures)),
       ap (λ (r : Advanced). r .more) (c .moved .ensures),
     )
 

@@ -21,8 +21,10 @@ returns c =
     let start : tie.Start = search in
     let arm : tie.At-match-keys2 = search in
     let done : tie.After-refuse = search in
-    let a = start .args in
-    (λ t bytes. rw (start-else (a .at) bytes (a .found) (arm .match .keys2) (start .pre .1)) (done .refuse .ensures .0 t), done .refuse .ensures .1)
+    let a = start .args in (
+      λ t bytes. rw (start-else (a .at) bytes (a .found) (arm .match .keys2) (start .pre .1)) (done .refuse .ensures .0 t),
+      done .refuse .ensures .1,
+    )
 
 fresh-book-requires : tie.Need-fresh-book-requires
 fresh-book-requires c κs = search needs

@@ -16,7 +16,10 @@ same-length : tie.Need-same-length
 same-length c = search needs
 
 returns : tie.Need-returns
-returns c = (λ t. arm-broken _ _ _ t _ _ _ _ _ (c .before .before .before .put-refused .ensures) (c .moved .ensures), ap (λ (r : Advanced). r .more) (c .moved .ensures))
+returns c = (
+  λ t. arm-broken _ _ _ t _ _ _ _ _ (c .before .before .before .put-refused .ensures) (c .moved .ensures),
+  ap (λ (r : Advanced). r .more) (c .moved .ensures),
+)
 
 pub refuse-spec : {M : Type 1} → statement M
 refuse-spec = tie.close (tie.spec put-refused-requires moved-requires same-length returns)

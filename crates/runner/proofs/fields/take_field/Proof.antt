@@ -60,7 +60,11 @@ gather-requires c κs =
     let known : tie.After-enum-told2 = search in (
       start .pre .0,
       (
-        (start .pre .1 .0 .0, sym (told .is-more .ensures) ∙ no .if1 .left, other-opening (start .args .found) (start .args .progress .phase) (known .enum-told2 .given .1) (start .pre .1 .0 .1)),
+        (
+          start .pre .1 .0 .0,
+          sym (told .is-more .ensures) ∙ no .if1 .left,
+          other-opening (start .args .found) (start .args .progress .phase) (known .enum-told2 .given .1) (start .pre .1 .0 .1),
+        ),
         start .pre .1 .1 .0,
       ),
     )
@@ -90,7 +94,8 @@ returns-2 c =
     let known : tie.After-enum-told = search in
     let done : tie.After-on-start = search in
     let a = start .args in (
-      λ o stage h. rw (stage-start (a .progress) (lendElements (a .element-data .now) (a .prices .now) o) (start .pre .1 .1 .1) (known .enum-told .given .1) stage h)
+      λ o stage h. rw (stage-start (a .progress) (lendElements (a .element-data .now) (a .prices .now) o) (start .pre .1 .1 .1)
+          (known .enum-told .given .1) stage h)
           (done .on-start .ensures .0 _ (a .s .now)),
       done .on-start .ensures .1 ∙ sym (sym (told .is-more .ensures) ∙ no .if1 .left),
     )
@@ -111,7 +116,8 @@ returns-3 c =
     let known = elements-of done in
     let a = start .args in (
       λ o stage h.
-          let i = stage-elements (a .progress) (lendElements (a .element-data .now) (a .prices .now) o) (start .pre .1 .1 .1) (known .enum-told2 .given .1) stage h in
+          let i = stage-elements (a .progress) (lendElements (a .element-data .now) (a .prices .now) o) (start .pre .1 .1 .1)
+          (known .enum-told2 .given .1) stage h in
           rw (i .is) (done .gather .ensures .0 (i .heading) (i .values) o (i .holds)),
       done .gather .ensures .1 ∙ sym (more-not done),
     )
@@ -127,7 +133,8 @@ returns-4 c =
     let known : tie.After-enum-told3 = search in
     let done : tie.After-finish = search in
     let a = start .args in (
-      λ o stage h. rw (stage-messages (a .progress) (lendElements (a .element-data .now) (a .prices .now) o) (start .pre .1 .1 .1) (known .enum-told3 .given .1) stage h .is)
+      λ o stage h. rw (stage-messages (a .progress) (lendElements (a .element-data .now) (a .prices .now) o) (start .pre .1 .1 .1)
+          (known .enum-told3 .given .1) stage h .is)
           (done .finish .ensures .0 _ _ _ (a .s .now)),
       done .finish .ensures .1 ∙ sym (sym (told .is-more .ensures) ∙ no .if1 .left),
     )

@@ -21,8 +21,10 @@ ask-elements-requires c κs =
     let start : tie.Start = search in
     let limited : tie.After-is-limited = search in
     let yes : tie.Then1 = search in
-    let few : tie.Then2 = search in
-    (limited-fitted (start .args .book) noLists (sym (limited .is-limited .ensures noLists) ∙ yes .if1 .taken) (few .if2 .taken), start .pre)
+    let few : tie.Then2 = search in (
+      limited-fitted (start .args .book) noLists (sym (limited .is-limited .ensures noLists) ∙ yes .if1 .taken) (few .if2 .taken),
+      start .pre,
+    )
 
 returns : tie.Need-returns
 returns c o =

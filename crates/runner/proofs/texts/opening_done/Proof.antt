@@ -38,7 +38,8 @@ returns c =
     let counted : tie.After-days-in-month = search in
     let first : tie.After-listed-first-day = search in
     let put : tie.After-put-book = search in
-    line-put (start .args .book) (start .args .question) (yes .if1 .taken) _ _ (counted .days-in-month .ensures) (first .listed-first-day .ensures)
+    line-put (start .args .book) (start .args .question) (yes .if1 .taken) _ _ (counted .days-in-month .ensures)
+    (first .listed-first-day .ensures)
     _ _ _ _ (start .args .last) (start .args .at) (c .moved .result) (put .put-book .ensures) (c .moved .ensures)
 
 same-length-2 : tie.Need-same-length-2
@@ -49,7 +50,8 @@ returns-2 c =
     let start : tie.Start = search in
     let no : tie.Else1 = search in
     let put : tie.After-put-refused = search in
-    refusal-put (start .args .book) (start .args .question) (no .if1 .left) _ _ _ _ (start .args .last) (start .args .at) (c .moved2 .result)
+    refusal-put (start .args .book) (start .args .question) (no .if1 .left) _ _ _ _ (start .args .last) (start .args .at)
+    (c .moved2 .result)
     (put .put-refused .ensures) (c .moved2 .ensures)
 
 pub opening-done-spec : {M : Type 1} → statement M

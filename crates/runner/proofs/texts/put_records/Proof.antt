@@ -79,8 +79,10 @@ loop-again c =
     let start = start-of turn in
     let l = turn .loop-test .taken in
     let r = start .pre .1 in
-    let entry = listed-at (recordAt (start .args .records .now)) (start .args .count) _ _ _ _ l (made .listed .ensures) in
-    (omega arith, line-more (start .args .records .now) _ _ _ _ _ _ _ (turn .before .loop .inv .1) _ entry (put .put-record .ensures) (omega arith))
+    let entry = listed-at (recordAt (start .args .records .now)) (start .args .count) _ _ _ _ l (made .listed .ensures) in (
+      omega arith,
+      line-more (start .args .records .now) _ _ _ _ _ _ _ (turn .before .loop .inv .1) _ entry (put .put-record .ensures) (omega arith),
+    )
 
 same-length : tie.Need-same-length Inv-loop μ-loop
 same-length c =

@@ -28,7 +28,8 @@ mul-rows-2 : tie.Need-mul-rows-2 Inv-loop μ-loop
 mul-rows-2 c = search needs
 
 rows-length : (c : tie.At-loop Inv-loop μ-loop) → length (c .loop .rows) ≡ length (c .before .args .rows .now)
-rows-length c = rw (c .loop .inv .1) (length-paste (c .before .args .rows .now) 0 (c .before .args .part .now) (c .loop .i) (omega arith) (c .loop .inv .0))
+rows-length c = rw (c .loop .inv .1) (length-paste (c .before .args .rows .now) 0 (c .before .args .part .now) (c .loop .i) (omega arith)
+    (c .loop .inv .0))
 
 slice-write-rows : tie.Need-slice-write-rows Inv-loop μ-loop
 slice-write-rows c = omega (arith, rows-length (c .before .before))

@@ -41,7 +41,14 @@ returns c =
     let s = c .before .before .before in
     let e = c .before .answer .given .1 in
     let h = rw e at (s .pre .1) in
-    rw e (refl, rw (back (c .before .answer .given .0 .0) (c .known-told .given .0 .1), back (c .before .answer .given .0 .1 .0) (c .known-told .given .1 .0 .1), cast-is (c .before .answer .given .0 .1 .1 .0) (omega arith)) (three-set (s .args .line .now) (s .pre .0) _ _ _))
+    rw e (
+      refl,
+      rw (
+        back (c .before .answer .given .0 .0) (c .known-told .given .0 .1),
+        back (c .before .answer .given .0 .1 .0) (c .known-told .given .1 .0 .1),
+        cast-is (c .before .answer .given .0 .1 .1 .0) (omega arith),
+      ) (three-set (s .args .line .now) (s .pre .0) _ _ _),
+    )
 
 returns-2 : tie.Need-returns-2
 unfolding lineRefused

@@ -46,7 +46,8 @@ is-sized-requires c κs =
     let s = start-of tested in
     let t = lent s noLists in
     limits-any (s .args .book) t
-    (both (withinLimits (openingIn (s .args .book) t)) (rowsFit (tablesIn (s .args .book) t)) (sym (limited tested noLists) ∙ c .if1 .taken) .0)
+    (both (withinLimits (openingIn (s .args .book) t)) (rowsFit (tablesIn (s .args .book) t))
+    (sym (limited tested noLists) ∙ c .if1 .taken) .0)
 
 elements-right-requires : tie.Need-elements-right-requires
 elements-right-requires c κs =

@@ -45,7 +45,8 @@ loop-again c = let s : tie.Start Inv-loop μ-loop = search in (
 returns : tie.Need-returns Inv-loop μ-loop
 returns c =
     let s : tie.Start Inv-loop μ-loop = search in
-    sym (in-not (λ x. leb x 9999999) (s .args .readings .now) (c .before .before .before .loop .i) (omega arith) (lt-leb _ _ (c .if1 .left)))
+    sym (in-not (λ x. leb x 9999999) (s .args .readings .now) (c .before .before .before .loop .i) (omega arith)
+    (lt-leb _ _ (c .if1 .left)))
 
 returns-2 : tie.Need-returns-2 Inv-loop μ-loop
 returns-2 c = let s = c .before .before in

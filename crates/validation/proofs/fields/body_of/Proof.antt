@@ -54,7 +54,8 @@ returns-8 : tie.Need-returns-8
 returns-8 c = c .round-of .ensures ∙ sym (kind-8 _ _ (c .before .match .keys8))
 
 returns-9 : tie.Need-returns-9
-returns-9 c = sym (kind-else _ _ (c .match .rest .0 .0 .0 .0 .0 .0 .0 .1) (c .match .rest .0 .0 .0 .0 .0 .0 .1) (c .match .rest .0 .0 .0 .0 .0 .1)
+returns-9 c = sym (kind-else _ _ (c .match .rest .0 .0 .0 .0 .0 .0 .0 .1) (c .match .rest .0 .0 .0 .0 .0 .0 .1)
+    (c .match .rest .0 .0 .0 .0 .0 .1)
     (c .match .rest .0 .0 .0 .0 .1) (c .match .rest .0 .0 .0 .1) (c .match .rest .0 .0 .1) (c .match .rest .0 .1) (c .match .rest .1))
 
 pub body-of-spec : {M : Type 1} → statement M

@@ -2,7 +2,8 @@
 use mathlib.Core.Path.{sym, _∙_}
 use Rattle.rules.specs.Lent.{Lists, openingIn, tablesIn}
 use Rattle.validation.specs.Decided.{asking}
-use Rattle.validation.proofs.Asks.{holder-is, state-is, reading-is, block-is, round-is, link-day, stop-day, quantity-day, quantity-placed}
+use Rattle.validation.proofs.Asks.{holder-is, state-is, reading-is, block-is, round-is, link-day, stop-day, quantity-day}
+use Rattle.validation.proofs.Asks.{quantity-placed}
 use borrow.Author.Needs.{needs}
 use Rattle.validation.proofs.questions.decide.Statement.{statement}
 use Rattle.validation.proofs.questions.decide.Tie as tie
@@ -113,34 +114,39 @@ returns-4 c o =
     let s : tie.Start = search in
     let t = lent s o in
     let named : tie.After-body4 = search in
-    c .is-sent .ensures ∙ rw (c .before .is-energinet .ensures) (sym (holder-is (openingIn (s .args .book) t) (tablesIn (s .args .book) t) (s .args .m) _ _ _ (named .body4 .given .1)))
+    c .is-sent .ensures ∙ rw (c .before .is-energinet .ensures)
+    (sym (holder-is (openingIn (s .args .book) t) (tablesIn (s .args .book) t) (s .args .m) _ _ _ (named .body4 .given .1)))
 
 returns-5 : tie.Need-returns-5
 returns-5 c o =
     let s : tie.Start = search in
     let t = lent s o in
     let named : tie.After-body5 = search in
-    c .is-sent2 .ensures ∙ rw (c .before .is-grid-company .ensures) (sym (state-is (openingIn (s .args .book) t) (tablesIn (s .args .book) t) (s .args .m) _ _ _ (named .body5 .given .1)))
+    c .is-sent2 .ensures ∙ rw (c .before .is-grid-company .ensures)
+    (sym (state-is (openingIn (s .args .book) t) (tablesIn (s .args .book) t) (s .args .m) _ _ _ (named .body5 .given .1)))
 
 returns-6 : tie.Need-returns-6
 returns-6 c o =
     let s : tie.Start = search in
     let t = lent s o in
     let named : tie.After-body6 = search in
-    c .decide-reading .ensures t ∙ sym (reading-is (openingIn (s .args .book) t) (tablesIn (s .args .book) t) (s .args .m) _ _ _ _ (named .body6 .given .1))
+    c .decide-reading .ensures t ∙ sym (reading-is (openingIn (s .args .book) t) (tablesIn (s .args .book) t) (s .args .m) _ _ _ _
+    (named .body6 .given .1))
 
 returns-7 : tie.Need-returns-7
 returns-7 c o =
     let s : tie.Start = search in
     let t = lent s o in
     let named : tie.After-body7 = search in
-    c .is-sent3 .ensures ∙ rw (c .before .is-grid-company2 .ensures) (sym (block-is (openingIn (s .args .book) t) (tablesIn (s .args .book) t) (s .args .m) _ _ (named .body7 .given .1)))
+    c .is-sent3 .ensures ∙ rw (c .before .is-grid-company2 .ensures)
+    (sym (block-is (openingIn (s .args .book) t) (tablesIn (s .args .book) t) (s .args .m) _ _ (named .body7 .given .1)))
 
 returns-8 : tie.Need-returns-8
 returns-8 c o =
     let s : tie.Start = search in
     let t = lent s o in
-    c .decide-round .ensures ∙ sym (round-is (openingIn (s .args .book) t) (tablesIn (s .args .book) t) (s .args .m) (c .before .enum-told .given .1))
+    c .decide-round .ensures ∙ sym (round-is (openingIn (s .args .book) t) (tablesIn (s .args .book) t) (s .args .m)
+    (c .before .enum-told .given .1))
 
 pub decide-spec : {M : Type 1} → statement M
 decide-spec =

@@ -71,7 +71,8 @@ returns c o =
       once .tariff-once .ensures (a .book) t (a .at .point) (a .at .day),
       allowed .is-allowed .ensures t,
       own .is-free .ensures t,
-    ) (at-known (openingIn (a .book) t) (tablesIn (a .book) t) (a .m) (a .at) (tariffOnce (openingIn (a .book) t) (Body.Link (a .at .point) (a .at .element) (a .at .day) (a .quantity)))
+    ) (at-known (openingIn (a .book) t) (tablesIn (a .book) t) (a .m) (a .at)
+    (tariffOnce (openingIn (a .book) t) (Body.Link (a .at .point) (a .at .element) (a .at .day) (a .quantity)))
     (question13 (tablesIn (a .book) t) (a .at .point) (a .at .element) (a .at .day)) 13
     (sym (then1 .before .before .ask-pair .ensures) ∙ sym (then1 .before .number .ensures) ∙ then1 .if1 .taken)
     ∙ sym (link-at (openingIn (a .book) t) (tablesIn (a .book) t) (a .m) (a .at) (a .quantity) (s .pre .1 .1)))
@@ -82,7 +83,8 @@ returns-2 c o =
     let a = s .args in
     let t = lent s o in
     c .before .before .ask-pair .ensures
-    ∙ at-unknown (openingIn (a .book) t) (tablesIn (a .book) t) (a .m) (a .at) (tariffOnce (openingIn (a .book) t) (Body.Link (a .at .point) (a .at .element) (a .at .day) (a .quantity)))
+    ∙ at-unknown (openingIn (a .book) t) (tablesIn (a .book) t) (a .m) (a .at)
+    (tariffOnce (openingIn (a .book) t) (Body.Link (a .at .point) (a .at .element) (a .at .day) (a .quantity)))
     (question13 (tablesIn (a .book) t) (a .at .point) (a .at .element) (a .at .day)) 13
     (λ h. c .if1 .left (c .before .number .ensures ∙ c .before .before .ask-pair .ensures ∙ h))
     ∙ sym (link-at (openingIn (a .book) t) (tablesIn (a .book) t) (a .m) (a .at) (a .quantity) (s .pre .1 .1))
