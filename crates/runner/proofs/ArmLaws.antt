@@ -60,7 +60,7 @@ pub arm-month : (at year month points suppliers next : ℕ) (bytes : List ℕ) (
 unfolding moveOn
 arm-month at year month points suppliers next bytes t out from b r f e =
     rw (e, f) (record {
-      holds = (refl, refl, no-values year month points suppliers t);
+      holds = (refl, refl, no-values year month points suppliers t, refl);
       text = nothing-written longestText out from;
       place = refl;
     })
@@ -73,7 +73,7 @@ pub arm-element : (at from size next : ℕ) (bytes : List ℕ) (h : Heading) (va
     → Advances (moveOn at (elements h values) (Element from size next) bytes) (r .progress) t out out (r .next) place (r .written)
 unfolding moveOn
 arm-element at from size next bytes h values t out place b r v e =
-    rw e (record { holds = (refl, refl, v); text = nothing-written longestText out place; place = refl })
+    rw e (record { holds = (refl, refl, v, refl); text = nothing-written longestText out place; place = refl })
 
 -- one move for another
 pub advances-by : {m m′ : Move} {p : Progress} {t : Lists} {out after : List ℕ} {next from written : ℕ} → m ≡ m′

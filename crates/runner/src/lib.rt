@@ -78,7 +78,7 @@ fn moved(phase: Phase, over: bool, book: Book, number: u64, next: usize, written
 
 // Before the first field.
 pub fn begin() -> Progress
-    ensures { λ r. ⌜ ((t : Lists) → Represents r t start) × (r .number ≡ 1) ⌝ }
+    ensures { λ r. ⌜ ((t : Lists) → Represents r t start) ⌝ }
 {
     Progress {
         phase: Phase::Start,
