@@ -1,12 +1,12 @@
 -- Bytes of a buffer copied to its front, one more at a time: what is still to be read stands behind what is written. Assumes nothing.
-use mathlib.Core.Path.{_≡_, sym, ap, _∙_}
-use mathlib.Core.List.{List, _++_}
-use Prim.Native.Nat.{ℕ, _+_, _-_, _≤_, _<_}
+use mathlib.Core.Path.{_≡_, refl, sym, ap, _∙_}
+use mathlib.Core.List.{List, [], _∷_, _++_}
+use Prim.Native.Nat.{ℕ, zero, suc, _+_, _-_, _≤_, _<_}
 use native.Mathlib.Omega.{arith}
 use native.Mathlib.Numerals.{add-one}
 use native.Mathlib.Nat.{zero-add}
 use lib.ListN.{length, getD, set, take, drop, length-drop}
-use lib.Seq.{paste, paste-suc, length-paste, take-paste, length-take-le, getD-append-add, getD-drop}
+use lib.Seq.{take-nil, paste, paste-suc, length-paste, take-paste, length-take-le, getD-append-add, getD-drop}
 
 module _ (b : List ℕ) (at n : ℕ) (h : at + n ≤ length b) where
   abbrev moved : ℕ → List ℕ
@@ -40,3 +40,11 @@ module _ (b : List ℕ) (at n : ℕ) (h : at + n ≤ length b) where
 
   pub moved-all : take n (moved n) ≡ take n (drop at b)
   moved-all = ap (λ (j : ℕ). take j (moved n)) (sym (zero-add n)) ∙ take-paste b 0 (drop at b) n (omega arith) rest-long
+
+-- what is kept of the first bytes
+pub part-rest : (at n : ℕ) (b : List ℕ) → drop at (take (at + n) b) ≡ take n (drop at b)
+part-rest zero n b = ap (λ (k : ℕ). take k b) (zero-add n)
+part-rest (suc at) n [] = ap (λ (xs : List ℕ). drop (suc at) xs) (take-nil (suc at + n)) ∙ sym (take-nil n)
+part-rest (suc at) n (x ∷ b) =
+    let q : suc at + n ≡ suc (at + n) = omega arith in
+    ap (λ (k : ℕ). drop (suc at) (take k (x ∷ b))) q ∙ part-rest at n b

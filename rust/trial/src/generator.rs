@@ -66,6 +66,25 @@ pub fn generate(seed: u64) -> Vec<u8> {
     }
 }
 
+/// A file of over 64 KiB, or of over 256 KiB for every third seed: many messages
+/// of one ordinary world.
+pub fn generate_large(seed: u64) -> Vec<u8> {
+    let mut r = Random::new(seed);
+    let count = if seed % 3 == 0 { 12_500 } else { 3_200 };
+    let month = random_month(&mut r);
+    let elements: Vec<Element> = (0..r.pick(&[2, 3, 5, 8]))
+        .map(|_| random_element(&mut r))
+        .collect();
+    let world = World::new(&mut r, &month, elements.clone());
+    let mut messages = Vec::new();
+    set_up(&mut r, &world, &mut messages);
+    for _ in 0..count {
+        messages.push(random_message(&mut r, &world));
+    }
+    messages.push(round(&world));
+    encode_all(&month, &elements, &messages).concat()
+}
+
 fn random_bytes(r: &mut Random) -> Vec<u8> {
     let length = r.pick(&[0, 1, 2, 3, 9, 23, 45, 100]);
     // Small bytes look like tags and lengths more often.

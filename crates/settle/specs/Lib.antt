@@ -1,0 +1,2 @@
+-- A session of the program: what a reader must believe.
+pub mod Sessions

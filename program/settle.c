@@ -1,0 +1,7 @@
+/* The program `settle`: it ends with the status that the proved function answers. A program of the Rattle kit cannot set its status itself. */
+unsigned settle_run(void);
+
+int main(void)
+{
+    return (int)settle_run();
+}
