@@ -155,6 +155,8 @@ pub fn turn(
         out,
     );
     let held = keep_rest(buffer, ran.next, have);
+    let failed = has_failed(session, input);
+    let turns = session.turns + 1;
     let after = ran.progress;
     Turned {
         session: Session {
@@ -162,9 +164,9 @@ pub fn turn(
             held,
             waits: ran.waits,
             ended,
-            failed: has_failed(session, input),
+            failed,
             unwritten: false,
-            turns: session.turns + 1,
+            turns,
         },
         written: ran.written,
     }
@@ -316,8 +318,10 @@ fn run_session(
             records,
             out,
         );
+        let written = turned.written;
+        let output = write_out(out, written);
         let after = turned.session;
-        session = with_output(after, write_out(out, turned.written));
+        session = with_output(after, output);
     }
     status(session)
 }

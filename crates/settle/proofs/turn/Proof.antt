@@ -66,8 +66,8 @@ keep-rest-requires c κs =
 has-failed-requires : tie.Need-has-failed-requires
 has-failed-requires c κs = search needs
 
-add-t51 : tie.Need-add-t51
-add-t51 c =
+add-turns : tie.Need-add-turns
+add-turns c =
     let kept : Kept = search in
     omega (arith, start-of (arrived-of (ran-of kept)) .pre .1)
 
@@ -132,7 +132,7 @@ turn-spec =
     run-requires
     keep-rest-requires
     has-failed-requires
-    add-t51
+    add-turns
     same-length
     same-length-2
     same-length-3
