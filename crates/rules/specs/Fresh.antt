@@ -1,6 +1,9 @@
 -- Fresh settlement: "told the opening and each message with the answer that demand 2 gives it, nothing else. It keeps, per point, holders
 -- and states by first day, readings by day and hour, and per element and day a quantity (0 if unlinked) and a mark where a period starts;
 -- none at first."
+-- Its state and what each message does to it stand here alone: no rows, no lines, nothing that was sent. It shares with the book which
+-- message the fields are (`understood`), the kinds and prices of elements and the month (`kindOf`, `termsOf`), that a recorded value holds
+-- up to the next (`latest`), which states count (`countingState`), and the charge of a day with its sums (`charge`, `line` in Lines.antt).
 use Prim.Native.Nat.{ℕ, _+_, _-_}
 use mathlib.Core.Bool.{Bool, false, not, _&&_, _||_, cond}
 use mathlib.Core.Option.{Option, none, some}
