@@ -3,7 +3,7 @@ use Prim.Native.Nat.{ℕ, _+_, _≤_, _<_}
 use native.Mathlib.Omega.{arith}
 use mathlib.Core.Path.{_≡_, refl, sym, ap, subst, _∙_}
 use mathlib.Core.Logic.{_≢_}
-use mathlib.Core.Bool.{Bool, true, false}
+use mathlib.Core.Bool.{Bool, true, false, cond}
 use mathlib.Core.List.{List}
 use lib.Dec.{T, eqb, leb, ltb, ltb→lt}
 use lib.IntN.{ℤ}
@@ -17,10 +17,10 @@ use Rattle.rules.specs.declared.Fields.{Fields}
 use Rattle.rules.specs.declared.LineAnswer.{LineAnswer}
 use Rattle.rules.specs.declared.DayAnswer.{DayAnswer}
 use Rattle.rules.specs.Lines.{Measure}
-use Rattle.rules.specs.World.{World, Opening, Tables, monthFirst, monthDays, stored, rowsOf}
+use Rattle.rules.specs.World.{World, bookOf, Opening, Tables, monthFirst, monthDays, stored, rowsOf}
 use Rattle.rules.specs.Questions.{question16}
 use Rattle.rules.specs.Opening.{openingAnswer, opened, afterOpening}
-use Rattle.rules.specs.Effects.{askBook, answer}
+use Rattle.rules.specs.Effects.{askBook, answer, accepted, stepBy, step}
 use Rattle.rules.specs.Lent.{Lists, worldIn}
 use Rattle.rules.specs.Queries.{LineResult, lineNumber, lineQuery, lineNamed, lineRefused, periodsNumber, periodsQuery, dayNumber}
 use Rattle.rules.specs.Queries.{lacksHolder}
@@ -38,7 +38,7 @@ use Rattle.queries.specs.Promises.{LineAnswered, DayTold}
 use Rattle.queries.proofs.Asks.{line-passed, day-passed}
 use Rattle.queries.proofs.Answered.{line-refused, periods-refused}
 use Rattle.settlement.specs.declared.Reply.{Reply}
-use Rattle.settlement.specs.Replies.{Replied}
+use Rattle.settlement.specs.Replies.{roomIn, Replied}
 use Rattle.settlement_book.specs.Numbers.{bookIn, numbersIn, lineNumbers, lineAfter, InKrone, dayAfter, dayAnswerNumber}
 use Rattle.settlement_book.specs.Promises.{OpensIn, RepliesIn, LineIn, PeriodsIn, DayIn}
 use Rattle.settlement_book.proofs.Lists.{pair-length}
@@ -208,17 +208,32 @@ pub answer-book : (w : World) (f : Fields) (room : ℕ) → askBook w 0 ≢ 0 �
 unfolding answer
 answer-book w f room h = book-refused w h _
 
--- of the book and the fields that numbers name; the book's numbers are put
-pub replies-in : {b b₀ : Book} {f f₀ : Fields} (o after : Lists) (r : Reply) (lent out : List ℤ) (numbers : List ℕ) (n count : ℕ)
-    → b ≡ b₀ → f ≡ f₀ → Replied (worldIn b o) (worldIn (r .book) after) f r lent out
-    → n ≡ numberOf (r .answer) → numbers ≡ numbersIn (r .book) → count ≡ r .records
-    → RepliesIn (worldIn b₀ o) (worldIn (bookIn numbers) after) f₀ n count lent out
-replies-in {b = b} {b₀ = b₀} {f = f} {f₀ = f₀} o after r lent out numbers n count e d h i k c =
-    let h₁ = subst (λ (x : Book). Replied (worldIn x o) (worldIn (r .book) after) f r lent out) e h in
-    let h₂ = subst (λ (x : Fields). Replied (worldIn b₀ o) (worldIn (r .book) after) x r lent out) d h₁ in
-    record {
-      number = i ∙ h₂ .number;
-      world = ap (λ (x : List ℕ). worldIn (bookIn x) after) k ∙ h₂ .world;
-      list = h₂ .list;
-      count = c ∙ h₂ .count;
-    }
+-- a refusal leaves the book
+refused-book : {b : Book} {f : Fields} (o after : Lists) (r : Reply) (lent out : List ℤ)
+    → Replied (worldIn b o) (worldIn (r .book) after) f r lent out → eqb (numberOf (r .answer)) 0 ≡ false → r .book ≡ b
+unfolding step stepBy accepted
+refused-book {b = b} {f = f} o after r lent out h z =
+    let still : step (worldIn b o) f (roomIn lent) ≡ worldIn b o = rw (← h .number, z) in
+    ap bookOf (h .world ∙ still)
+
+-- of the book and the fields that numbers name: the numbers that are put are those of the book that the reply names
+module _ {b : Book} {f : Fields} (o after : Lists) (r : Reply) (lent out : List ℤ) (was left : List ℕ)
+    (e : b ≡ bookIn was) (h : Replied (worldIn b o) (worldIn (r .book) after) f r lent out)
+    (k : left ≡ cond (eqb (numberOf (r .answer)) 0) (numbersIn (r .book)) was) where
+  pub put-book-is : bookIn left ≡ r .book
+  put-book-is = cases (eqb (numberOf (r .answer)) 0)
+      (λ t. ap bookIn (rw t at k))
+      (λ t. ap bookIn (rw t at k) ∙ sym e ∙ sym (refused-book o after r lent out h t))
+
+  pub replies-in : {f₀ : Fields} (a n₀ n : ℕ) → f ≡ f₀ → a ≡ numberOf (r .answer)
+      → n ≡ cond (eqb (numberOf (r .answer)) 0) (r .records) n₀
+      → RepliesIn (worldIn (bookIn was) o) (worldIn (bookIn left) after) f₀ a n₀ n lent out
+  replies-in {f₀ = f₀} a n₀ n d i c =
+      let h₁ = subst (λ (x : Book). Replied (worldIn x o) (worldIn (r .book) after) f r lent out) e h in
+      let h₂ = subst (λ (x : Fields). Replied (worldIn (bookIn was) o) (worldIn (r .book) after) x r lent out) d h₁ in
+      record {
+        number = i ∙ h₂ .number;
+        world = world-as put-book-is ∙ h₂ .world;
+        list = h₂ .list;
+        count = rw (← h₂ .number, ← h₂ .count) c;
+      }

@@ -25,12 +25,12 @@ pub record OpensIn (w after : World) (lent out : List ℕ) (r : ℕ) : Type 0 wh
   pub book : out ≡ cond (eqb (openingAnswer w) 0) (numbersIn (bookOf w)) lent
   pub world : after ≡ afterOpening w
 
--- a message: the answer, everything lent, the records at the front of the list, and how many there are
-pub record RepliesIn (w after : World) (f : Fields) (r n : ℕ) (lent out : List ℤ) : Type 0 where
+-- a message: the answer, everything lent, the records at the front of the list, and how many there are, n₀ being the count as it was lent
+pub record RepliesIn (w after : World) (f : Fields) (r n₀ n : ℕ) (lent out : List ℤ) : Type 0 where
   pub number : r ≡ answer w f (roomIn lent)
   pub world : after ≡ step w f (roomIn lent)
   pub list : out ≡ numbersAfter (recordsOf w f (roomIn lent)) lent
-  pub count : n ≡ length (recordsOf w f (roomIn lent))
+  pub count : n ≡ cond (eqb (answer w f (roomIn lent)) 0) (length (recordsOf w f (roomIn lent))) n₀
 
 -- the line query; for a book reached from an opening the line's numbers are the rules' sums
 pub record LineIn (w : World) (supplier element : ℕ) (r : ℕ) (lent out : List ℤ) : Type 0 where

@@ -147,7 +147,8 @@ pub fn message(
     )
 }
 
-// The same in numbers: the question that says no, or 0; and how many records stand at the front of the list.
+// The same in numbers: the question that says no, and everything lent is as it was, the count too; or 0, and how many records stand at the
+// front of the list.
 #[no_mangle]
 pub extern "C" fn settlement_book_message(
     book: &mut [u64],
@@ -167,17 +168,15 @@ pub extern "C" fn settlement_book_message(
     ensures replies { λ r. ⌜ (let t = lent element_data prices links holders states readings blocks lines sent in
         SizedMessage (was book) (was fields)
         → RepliesIn (worldIn (bookIn (was book)) (t .entry)) (worldIn (bookIn (left book)) (t .exit)) (fieldsIn (was fields))
-        r (left count) (was records) (left records)) ⌝ }
+        r (was count) (left count) (was records) (left records)) ⌝ }
     ensures otherwise { λ r. ⌜ (let t = lent element_data prices links holders states readings blocks lines sent in
         (SizedMessage (was book) (was fields) → ⊥)
-        → (r ≡ 3) × (left book ≡ was book) × (t .exit ≡ t .entry) × (left records ≡ was records) × (left count ≡ 0)) ⌝ }
+        → (r ≡ 3) × (left book ≡ was book) × (t .exit ≡ t .entry) × (left records ≡ was records) × (left count ≡ was count)) ⌝ }
 {
     if book.len() != BOOK_SIZE {
-        *count = 0;
         return number(Answer::WrongLength);
     }
     if fields.len() != FIELDS_SIZE {
-        *count = 0;
         return number(Answer::WrongLength);
     }
     let reply = message(
@@ -218,7 +217,7 @@ pub extern "C" fn settlement_book_message_within(
     requires { ⌜ Whole (worldIn (bookIn (now book)) (given element_data prices links holders states readings blocks lines sent)) ⌝ }
     ensures replies { λ r. ⌜ (let t = lent element_data prices links holders states readings blocks lines sent in
         RepliesIn (worldIn (bookIn (was book)) (t .entry)) (worldIn (bookIn (left book)) (t .exit)) (fieldsIn (was fields))
-        r (left count) (was records) (left records)) ⌝ }
+        r (was count) (left count) (was records) (left records)) ⌝ }
     ensures whole { λ _. ⌜ (let t = lent element_data prices links holders states readings blocks lines sent in
         Whole (worldIn (bookIn (left book)) (t .exit))) ⌝ }
 {

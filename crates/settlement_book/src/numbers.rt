@@ -1,6 +1,8 @@
 // A book, a message and the answers as the numbers that the exported functions take and give.
 ghost use mathlib.Core.Path.{_≡_};
 ghost use Prim.Native.Nat.{_≤_};
+ghost use mathlib.Core.Bool.{cond};
+ghost use lib.Dec.{eqb};
 ghost use lib.ListN.{length};
 ghost use Rattle.rules.specs.Answers.{lineResult, numberOf};
 ghost use Rattle.rules.specs.Sizes.{lineSize};
@@ -73,18 +75,22 @@ pub fn fields_of(numbers: &[u64]) -> Fields
 
 // ---- answers
 
-// What a message has left: the book's numbers, how many records there are, and the question that says no, or 0.
+// The question that says no, which writes nothing; or 0, with the numbers of the book that a message leaves and how many records there are.
 pub fn put_reply(reply: Reply, book: &mut [u64], count: &mut u64) -> u64
     requires { ⌜ length (now book) ≡ bookSize ⌝ }
     ensures number { λ r. ⌜ r ≡ numberOf (reply .answer) ⌝ }
-    ensures book { λ _. ⌜ left book ≡ numbersIn (reply .book) ⌝ }
-    ensures count { λ _. ⌜ left count ≡ reply .records ⌝ }
+    ensures book { λ _. ⌜ left book ≡ cond (eqb (numberOf (reply .answer)) 0) (numbersIn (reply .book)) (was book) ⌝ }
+    ensures count { λ _. ⌜ left count ≡ cond (eqb (numberOf (reply .answer)) 0) (reply .records) (was count) ⌝ }
 {
     let answer = reply.answer;
+    let asked = number(answer);
+    if asked != 0 {
+        return asked;
+    }
     let after = reply.book;
     put_book(book, after);
     *count = reply.records as u64;
-    number(answer)
+    asked
 }
 
 // The line's three numbers, or the question that says no; a refusal writes nothing.

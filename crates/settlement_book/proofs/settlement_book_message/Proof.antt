@@ -87,8 +87,8 @@ returns-3 c =
     let replied = replied-of put in
     let start = start-of (named-of replied) in
     let e = put .put-reply .ensures in (
-      λ _. replies-in _ _ (replied .message .result) (start .args .records .now) _ _ _ _ (named-of replied .book-of .ensures)
-          (fields-before replied .fields-of .ensures) (replied .message .ensures) (e .0) (e .1 .0) (e .1 .1),
+      λ _. replies-in _ _ (replied .message .result) (start .args .records .now) _ _ _ (named-of replied .book-of .ensures)
+          (replied .message .ensures) (e .1 .0) _ (start .args .count .now) _ (fields-before replied .fields-of .ensures) (e .0) (e .1 .1),
       λ short. absurd (short (book-sized replied .if1 .left, fields-sized replied .if2 .left)),
     )
 

@@ -1,5 +1,5 @@
 -- The reply, said in numbers: the book that it names is put in the place of the lent one.
-use Rattle.settlement_book.proofs.Answers.{put-whole, replies-in, whole-as}
+use Rattle.settlement_book.proofs.Answers.{put-book-is, replies-in, whole-as}
 use borrow.Author.Needs.{needs}
 use Rattle.settlement_book.proofs.settlement_book_message_within.Statement.{statement}
 use Rattle.settlement_book.proofs.settlement_book_message_within.Tie as tie
@@ -66,10 +66,12 @@ returns c =
     let put : tie.After-put-reply = search in
     let replied = replied-of put in
     let start = start-of (named-of replied) in
+    let r = replied .message .ensures in
     let e = put .put-reply .ensures in (
-      replies-in _ _ (replied .message .result) (start .args .records .now) _ _ _ _ (named-of replied .book-of .ensures)
-          (fields-before replied .fields-of .ensures) (replied .message .ensures .0) (e .0) (e .1 .0) (e .1 .1),
-      put-whole _ _ _ (e .1 .0) (replied .message .ensures .1),
+      replies-in _ _ (replied .message .result) (start .args .records .now) _ _ _ (named-of replied .book-of .ensures) (r .0) (e .1 .0)
+          _ (start .args .count .now) _ (fields-before replied .fields-of .ensures) (e .0) (e .1 .1),
+      whole-as (put-book-is _ _ (replied .message .result) (start .args .records .now) _ _ _ (named-of replied .book-of .ensures) (r .0)
+          (e .1 .0)) (r .1),
     )
 
 pub settlement-book-message-within-spec : {M : Type 1} → statement M
