@@ -2,25 +2,30 @@
 //!
 //! Each exported function whose name ends in `_within` asks that its slices have the
 //! lengths named below and that the book is well formed (`Whole` in
-//! `crates/rules/specs/Whole.antt`); the others ask nothing. Both hold of every [`Book`]:
+//! `crates/rules/specs/Whole.antt`); this module is their only caller. The others ask
+//! nothing. Both hold of every [`Book`]:
 //!
 //! - A `Book` comes from [`Book::open`] alone, or is a clone of one. It is made where
-//!   `settlement_book_open` answers 0, whose promise says that the nine numbers and
+//!   `settlement_book_open` answers 0, whose promise says that the book's numbers and
 //!   the tables are then well formed.
 //! - Nothing writes them but the two message functions. `settlement_book_message_within`
 //!   promises that the book stays well formed. `settlement_book_message` promises the
 //!   same step of the same book (`RepliesIn` in `crates/settlement_book`).
 //! - The fields are private to this module, which hands out no `&mut` to them and
-//!   never changes their lengths: nine numbers, links and rows 1,024 words each, and
-//!   the other tables as the opening has accepted them.
+//!   never changes their lengths: those that the opening has accepted.
 //! - All tables are their own allocations, so no two slices overlap, and `&mut self`
 //!   or `&self` holds them for the time of the call. Every number is an integer of
 //!   the same width on both sides, and no pointer is kept.
 
 use crate::{Counts, Element, Fields, Line, Month, Period, Question, Record, days_in_month};
 
+/// The numbers of a book, of a message, of a line and of a record.
+const BOOK_SIZE: usize = 9;
+const FIELDS_SIZE: usize = 9;
+const LINE_SIZE: usize = 3;
+const RECORD_SIZE: usize = 6;
 /// Places for periods, for holders and for states.
-const PLACES: usize = 1024;
+const PLACES: u64 = 1024;
 /// What stands for no day: the number behind the last day.
 const NO_DAY: u64 = settlement_file::DAY_COUNT;
 
@@ -62,11 +67,7 @@ exported! { mut:
 
 exported! { const:
     settlement_book_line(supplier: u64, element: u64, line: *mut i64, line_length: usize);
-    settlement_book_periods(
-        point: u64, element: u64,
-        rows: *mut u64, rows_length: usize,
-        count: *mut u64
-    );
+    settlement_book_periods(point: u64, element: u64, place: *mut u64, count: *mut u64);
     settlement_book_day_without_holder(point: u64, day: *mut u64);
 }
 
@@ -84,8 +85,7 @@ unsafe extern "C" {
         book: *const u64, book_length: usize,
         links: *const u64, links_length: usize,
         point: u64, element: u64,
-        rows: *mut u64, rows_length: usize,
-        count: *mut u64,
+        place: *mut u64, count: *mut u64,
     ) -> u64;
     #[rustfmt::skip]
     fn settlement_book_day_without_holder_within(
@@ -142,7 +142,7 @@ macro_rules! read_with {
 pub struct Book {
     /// Year, month, points, suppliers, elements; periods, holders and states in
     /// use; the kind of the next round.
-    numbers: [u64; 9],
+    numbers: [u64; BOOK_SIZE],
     element_data: Box<[u8]>,
     prices: Box<[i64]>,
     links: Box<[u64]>,
@@ -154,8 +154,6 @@ pub struct Book {
     sent: Box<[i64]>,
     /// One place for each line, so a round always fits.
     records: Box<[Record]>,
-    /// The answer to a query for periods.
-    rows: Box<[u64]>,
 }
 
 fn zeros<T: Clone + Default>(count: u64) -> Box<[T]> {
@@ -192,15 +190,14 @@ impl Book {
             ],
             element_data: element_data.collect(),
             prices: prices.into(),
-            links: zeros(PLACES as u64),
-            holders: zeros(PLACES as u64),
-            states: zeros(PLACES as u64),
+            links: zeros(PLACES),
+            holders: zeros(PLACES),
+            states: zeros(PLACES),
             readings: zeros(points * days * 24),
             blocks: zeros(points),
-            lines: zeros(places * 3),
-            sent: zeros(places * 3),
+            lines: zeros(places * LINE_SIZE as u64),
+            sent: zeros(places * LINE_SIZE as u64),
             records: zeros(places),
-            rows: zeros(PLACES as u64),
         };
         // Safety: the function takes anything; each slice is a list with its length.
         let answer = unsafe { write_with!(book, settlement_book_open()) };
@@ -222,7 +219,7 @@ impl Book {
 
     #[inline]
     fn message_by(&mut self, fields: &Fields, checked: bool) -> Result<&[Record], Question> {
-        let fields = [
+        let fields: [u64; FIELDS_SIZE] = [
             fields.kind,
             fields.role,
             fields.sender,
@@ -235,19 +232,21 @@ impl Book {
         ];
         let mut count = 0;
         // A record is six numbers of 64 bits, each of which may be anything.
-        let (records, length) = (self.records.as_mut_ptr().cast(), self.records.len() * 6);
-        // Safety: nine numbers and nine fields. The book is well formed, as the head of
-        // this module says.
+        let records = self.records.as_mut_ptr().cast();
+        let length = self.records.len() * RECORD_SIZE;
+        let (message, size) = (fields.as_ptr(), fields.len());
+        // Safety: a book's numbers and a message's. The book is well formed, as the head
+        // of this module says.
         let answer = unsafe {
             if checked {
                 write_with!(
                     self,
-                    settlement_book_message(records, length, fields.as_ptr(), 9, &mut count)
+                    settlement_book_message(records, length, message, size, &mut count)
                 )
             } else {
                 write_with!(
                     self,
-                    settlement_book_message_within(records, length, fields.as_ptr(), 9, &mut count)
+                    settlement_book_message_within(records, length, message, size, &mut count)
                 )
             }
         };
@@ -257,8 +256,8 @@ impl Book {
     /// What a supplier owes for an element, or question 6 or 8.
     #[inline]
     pub fn line(&self, supplier: u64, element: u64) -> Result<Line, Question> {
-        let mut line = [0; 3];
-        // Safety: nine numbers, a line of three, and the book is well formed.
+        let mut line = [0; LINE_SIZE];
+        // Safety: a book's numbers, a line's, and the book is well formed.
         let answer = unsafe {
             settlement_book_line_within(
                 self.numbers.as_ptr(),
@@ -268,7 +267,7 @@ impl Book {
                 supplier,
                 element,
                 line.as_mut_ptr(),
-                3,
+                line.len(),
             )
         };
         Question::none_of(answer).map(|()| line_of(line))
@@ -276,29 +275,27 @@ impl Book {
 
     /// The same through the exported function that asks questions 2 to 5 first.
     pub fn line_checked(&self, supplier: u64, element: u64) -> Result<Line, Question> {
-        let mut line = [0; 3];
+        let mut line = [0; LINE_SIZE];
         // Safety: the function takes anything; each slice is a list with its length.
         let answer = unsafe {
             read_with!(
                 self,
-                settlement_book_line(supplier, element, line.as_mut_ptr(), 3)
+                settlement_book_line(supplier, element, line.as_mut_ptr(), line.len())
             )
         };
         Question::none_of(answer).map(|()| line_of(line))
     }
 
     /// Everything recorded for a point and an element, by first day, or question 7 or
-    /// 8. The rows are copied into a list that the book owns.
+    /// 8: that part of the link table, not a copy.
     #[inline]
     pub fn periods(
-        &mut self,
+        &self,
         point: u64,
         element: u64,
     ) -> Result<impl ExactSizeIterator<Item = Period> + '_, Question> {
-        let mut count = 0;
-        let (rows, length) = (self.rows.as_mut_ptr(), self.rows.len());
-        // Safety: nine numbers, as many rows as there are links, and the book is well
-        // formed.
+        let (mut place, mut count) = (0, 0);
+        // Safety: a book's numbers, and the book is well formed.
         let answer = unsafe {
             settlement_book_periods_within(
                 self.numbers.as_ptr(),
@@ -307,35 +304,33 @@ impl Book {
                 self.links.len(),
                 point,
                 element,
-                rows,
-                length,
+                &mut place,
                 &mut count,
             )
         };
-        Question::none_of(answer).map(|()| self.periods_listed(count))
+        Question::none_of(answer).map(|()| self.periods_at(place, count))
     }
 
     /// The same through the exported function that asks questions 2 to 5 first.
     pub fn periods_checked(
-        &mut self,
+        &self,
         point: u64,
         element: u64,
     ) -> Result<impl ExactSizeIterator<Item = Period> + '_, Question> {
-        let mut count = 0;
-        let (rows, length) = (self.rows.as_mut_ptr(), self.rows.len());
+        let (mut place, mut count) = (0, 0);
         // Safety: the function takes anything; each slice is a list with its length.
         let answer = unsafe {
             read_with!(
                 self,
-                settlement_book_periods(point, element, rows, length, &mut count)
+                settlement_book_periods(point, element, &mut place, &mut count)
             )
         };
-        Question::none_of(answer).map(|()| self.periods_listed(count))
+        Question::none_of(answer).map(|()| self.periods_at(place, count))
     }
 
     #[inline]
-    fn periods_listed(&self, count: u64) -> impl ExactSizeIterator<Item = Period> + '_ {
-        let rows = &self.rows[..count as usize];
+    fn periods_at(&self, place: u64, count: u64) -> impl ExactSizeIterator<Item = Period> + '_ {
+        let rows = &self.links[place as usize..][..count as usize];
         rows.iter().map(|word| Period::of_row(*word))
     }
 
@@ -344,7 +339,7 @@ impl Book {
     #[inline]
     pub fn day_without_holder(&self, point: u64) -> Result<Option<u64>, Question> {
         let mut day = NO_DAY;
-        // Safety: nine numbers, and the book is well formed.
+        // Safety: a book's numbers, and the book is well formed.
         let answer = unsafe {
             settlement_book_day_without_holder_within(
                 self.numbers.as_ptr(),
@@ -389,7 +384,7 @@ impl Book {
     }
 }
 
-fn line_of([quantity, kroner, billionths]: [i64; 3]) -> Line {
+fn line_of([quantity, kroner, billionths]: [i64; LINE_SIZE]) -> Line {
     Line {
         quantity,
         kroner,
@@ -420,34 +415,54 @@ mod tests {
         Book::open(month, counts, &[element], &[0; 24]).unwrap()
     }
 
-    /// The functions for any book ask nothing of their callers: numbers of another
-    /// length are question 3, and nothing else is written.
+    /// The functions for any book ask nothing of their callers: another length is
+    /// question 3, and nothing is written.
     #[test]
     fn other_lengths_are_question_3() {
         let mut book = book();
         let mut count = 7;
         let round = [8, 2, 0, 8826, 0, 0, 0, 0];
-        let records = &mut [5i64; 6];
+        let records = &mut [5i64; RECORD_SIZE];
+        let (list, length) = (records.as_mut_ptr(), records.len());
+        let (message, size) = (round.as_ptr(), round.len());
         let answer = unsafe {
             write_with!(
                 book,
-                settlement_book_message(records.as_mut_ptr(), 6, round.as_ptr(), 8, &mut count)
+                settlement_book_message(list, length, message, size, &mut count)
             )
         };
-        assert_eq!((answer, count, *records), (3, 0, [5; 6]));
+        assert_eq!((answer, count, *records), (3, 7, [5; RECORD_SIZE]));
 
         let line = &mut [5i64; 2];
         let answer = unsafe { read_with!(book, settlement_book_line(1, 0, line.as_mut_ptr(), 2)) };
         assert_eq!((answer, *line), (3, [5; 2]));
 
+        book.links = zeros(PLACES - 1);
+        let (mut place, mut count) = (6, 7);
+        let answer =
+            unsafe { read_with!(book, settlement_book_periods(0, 0, &mut place, &mut count)) };
+        assert_eq!((answer, place, count), (3, 6, 7));
+    }
+
+    /// A refused message and a refused query leave the lent numbers.
+    #[test]
+    fn a_refusal_leaves_the_lent_numbers() {
+        let mut book = book();
         let mut count = 7;
-        let rows = &mut [5u64; 1023];
+        let block = [7, 1, 0, 8826, 1, 0, 0, 0, 1];
+        let (message, size) = (block.as_ptr(), block.len());
+        let list = [0i64; 0].as_mut_ptr();
         let answer = unsafe {
-            read_with!(
+            write_with!(
                 book,
-                settlement_book_periods(0, 0, rows.as_mut_ptr(), 1023, &mut count)
+                settlement_book_message_within(list, 0, message, size, &mut count)
             )
         };
-        assert_eq!((answer, count, *rows), (3, 0, [5; 1023]));
+        assert_eq!((answer, count), (7, 7));
+
+        let mut place = 6;
+        let answer =
+            unsafe { read_with!(book, settlement_book_periods(0, 1, &mut place, &mut count)) };
+        assert_eq!((answer, place, count), (8, 6, 7));
     }
 }

@@ -129,6 +129,11 @@ fn queries_answer_or_name_the_question() {
         },
     ];
     assert_eq!(book.periods(0, 0).unwrap().collect::<Vec<_>>(), split);
+    let behind = Period {
+        quantity: 1,
+        ..whole
+    };
+    assert_eq!(book.periods(0, 1).unwrap().collect::<Vec<_>>(), [behind]);
     assert_eq!(book.periods(1, 0).err(), Some(Question::UnknownPoint));
     assert_eq!(book.periods(0, 2).err(), Some(Question::UnknownElement));
     assert_eq!(book.day_without_holder(0), Ok(None));

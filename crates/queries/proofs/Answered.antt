@@ -11,6 +11,7 @@ use borrow.Author.Tests.{eq-eqb, ne-eqb}
 use native.Mathlib.Nat.{mul-le-mul}
 use native.Mathlib.Omega.{arith}
 use Rattle.rules.specs.declared.Answer.{Answer}
+use Rattle.rules.specs.declared.Book.{Book}
 use Rattle.rules.specs.declared.LineAnswer.{LineAnswer}
 use Rattle.ledger.specs.declared.lines.Line.{Line}
 use Rattle.rules.specs.Sizes.{mostElements, mostLines, mostSuppliers}
@@ -26,8 +27,12 @@ use Rattle.rules.proofs.LineQuery.{query-stored}
 use Rattle.rules.proofs.Demand3.{demand3}
 use Rattle.ledger.specs.Bounds.{LineOf}
 use Rattle.rules.proofs.Parts.{lengths, formed}
-use Rattle.queries.specs.Promises.{isLine, LineAnswered}
-use Rattle.queries.proofs.Asks.{line-passed}
+use Rattle.rules.specs.Lent.{Lists, worldIn}
+use Rattle.tables.specs.Order.{LinkRows, PairFits}
+use Rattle.tables.specs.RowRange.{PairAt}
+use Rattle.tables.proofs.Right.{whole-rows}
+use Rattle.queries.specs.Promises.{isLine, LineAnswered, PeriodsAt}
+use Rattle.queries.proofs.Asks.{line-passed, periods-passed}
 
 -- every product fits
 pub place-small : (elements s : ℕ) → s ≤ mostSuppliers → elements ≤ mostElements → (s - 1) * elements ≤ mostLines
@@ -80,11 +85,29 @@ module _ (w : World) (s e : ℕ) where
 
 -- ---- the periods
 
+-- what the search for them asks
+pub pair-asked : (b : Book) (o : Lists) (p e : ℕ) → periodsNumber (worldIn b o) p e ≡ 0 → LinkRows (o .links) (b .periods) × PairFits p e
+pair-asked b o p e h =
+    let k = periods-passed (worldIn b o) p e h in
+    let n = lengths (worldIn b o) (k .0) .limited in
+    let points = n .points in
+    let elements = n .elements in
+    let i = k .1 .0 in
+    let j = k .1 .1 in
+    (whole-rows b o (k .0) .links, record { point = omega arith; element = omega arith })
+
 module _ (w : World) (p e : ℕ) where
   pub periods-answered : periodsNumber w p e ≡ 0
       → pairRows p e (take (w .position .tables .links .used) (w .position .tables .links .words)) ≡ periodsQuery w p e
   unfolding periodsQuery rowsOf
   periods-answered h = rw h
+
+  pub periods-at : (place count : ℕ) → periodsNumber w p e ≡ 0
+      → PairAt p e (w .position .tables .links .words) (w .position .tables .links .used) place count → PeriodsAt w p e place count
+  unfolding rowsOf
+  periods-at place count h k =
+      let q = periods-answered h in
+      record { from = k .from; many = k .many ∙ ap length q; rows = k .rows ∙ q }
 
   pub periods-refused : periodsNumber w p e ≢ 0 → [] ≡ periodsQuery w p e
   unfolding periodsQuery

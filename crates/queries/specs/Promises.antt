@@ -4,15 +4,17 @@ use mathlib.Core.Path.{_≡_}
 use mathlib.Core.Bool.{Bool, true, false}
 use mathlib.Core.List.{List}
 use lib.Dec.{eqb}
+use lib.ListN.{length, take, drop}
 use Rattle.rules.specs.declared.LineAnswer.{LineAnswer}
 use Rattle.rules.specs.declared.DayAnswer.{DayAnswer}
 use Rattle.rules.specs.Lines.{Measure, line}
-use Rattle.rules.specs.World.{World, termsOf, InBook}
+use Rattle.rules.specs.World.{World, rowsOf, termsOf, InBook}
 use Rattle.rules.specs.Opening.{openingAnswer}
-use Rattle.rules.specs.Queries.{lineNumber, lineQuery, lineNamed, dayNumber}
+use Rattle.rules.specs.Queries.{lineNumber, lineQuery, lineNamed, periodsQuery, dayNumber}
 use Rattle.rules.specs.Answers.{lineResult, DayAnswered}
 use Rattle.rules.specs.Fresh.{freshFacts}
 use Rattle.rules.specs.Claim.{Event, reached}
+use Rattle.tables.specs.RowRange.{pairPlace}
 
 -- is it a line, and no refusal
 abbrev pub isLine : LineAnswer → Bool
@@ -27,6 +29,13 @@ pub record LineAnswered (w : World) (supplier element : ℕ) (r : LineAnswer) : 
   pub settled : (w₀ : World) (vs : List Event) → openingAnswer w₀ ≡ 0 → w ≡ reached w₀ vs .world → InBook (w₀ .opening) supplier element
       → lineResult r ≡ lineNamed (line (termsOf (w₀ .opening)) (freshFacts (reached w₀ vs .fresh)) Measure.quantity supplier element)
       (line (termsOf (w₀ .opening)) (freshFacts (reached w₀ vs .fresh)) Measure.amount supplier element)
+
+-- the part of the link table that holds a point and an element: behind the rows in use of earlier points and elements, as many rows as
+-- there are
+pub record PeriodsAt (w : World) (point element : ℕ) (place count : ℕ) : Type 0 where
+  pub from : place ≡ pairPlace point element (rowsOf (w .position .tables .links))
+  pub many : count ≡ length (periodsQuery w point element)
+  pub rows : take count (drop place (w .position .tables .links .words)) ≡ periodsQuery w point element
 
 -- does it name a day or none, and is no refusal
 abbrev pub isNaming : DayAnswer → Bool

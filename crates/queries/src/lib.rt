@@ -14,7 +14,7 @@ ghost use Rattle.rules.specs.Answers.{numberOf};
 ghost use Rattle.rules.specs.Whole.{Whole};
 ghost use Rattle.rules.specs.Lent.{Lists, worldIn, openingIn, tablesIn, lendLinks, lendRows, lendLines, was};
 ghost use Rattle.tables.specs.Order.{LinkRows};
-ghost use Rattle.queries.specs.Promises.{LineAnswered, DayTold};
+ghost use Rattle.queries.specs.Promises.{LineAnswered, PeriodsAt, DayTold};
 ghost use Rattle.queries.specs.Days.{PointAsked, InMonth};
 use calendar::days_in_month;
 use calendar::first_day;
@@ -28,7 +28,9 @@ use rules::Book;
 use rules::DayAnswer;
 use rules::LINE_SIZE;
 use rules::LineAnswer;
+use tables::Part;
 use tables::pair_part;
+use tables::pair_place;
 use tables::quantity_on;
 use validation::questions::ask_element;
 use validation::questions::ask_point;
@@ -77,6 +79,17 @@ pub fn line(book: Book, lines: &[i64], supplier: u64, element: u64) -> LineAnswe
 }
 
 // ---- the periods of a point and element
+
+// Where everything recorded for a point and an element stands in the link table, for a query that has passed its questions: 2 to 5 of the
+// book, then 7 and 8. Logarithmic in the rows.
+pub fn periods_place(book: Book, links: &[u64], point: u64, element: u64) -> Part
+    requires { ⌜ ((o : Lists) × periodsNumber (worldIn book (lendLinks (now links) o)) point element ≡ 0) ⌝ }
+    ensures { λ r. ⌜ ((o : Lists) →
+        let w = worldIn book (lendLinks (was links) o) in
+        periodsNumber w point element ≡ 0 → PeriodsAt w point element (r .place) (r .count)) ⌝ }
+{
+    pair_place(links, book.periods as usize, point, element)
+}
 
 // Everything recorded for a point and an element, as that part of the link table; the empty part where the query is refused. `asked` is
 // what its questions have answered: 2 to 5 of the book, then 7 and 8 (`validation::questions::ask_pair`). Logarithmic in the rows.

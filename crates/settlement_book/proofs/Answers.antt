@@ -7,7 +7,6 @@ use mathlib.Core.Bool.{Bool, true, false, cond}
 use mathlib.Core.List.{List}
 use lib.Dec.{T, eqb, leb, ltb, ltb→lt}
 use lib.IntN.{ℤ}
-use lib.ListN.{length, take, length-take}
 use borrow.Author.Tests.{eq-eqb, ne-eqb, eqb-true}
 use Rattle.calendar.proofs.Entries.{both-left, both-right}
 use Rattle.calendar.proofs.MonthLaws.{month-within}
@@ -17,12 +16,12 @@ use Rattle.rules.specs.declared.Fields.{Fields}
 use Rattle.rules.specs.declared.LineAnswer.{LineAnswer}
 use Rattle.rules.specs.declared.DayAnswer.{DayAnswer}
 use Rattle.rules.specs.Lines.{Measure}
-use Rattle.rules.specs.World.{World, bookOf, Opening, Tables, monthFirst, monthDays, stored, rowsOf}
+use Rattle.rules.specs.World.{World, bookOf, Opening, Tables, monthFirst, monthDays, stored}
 use Rattle.rules.specs.Questions.{question16}
 use Rattle.rules.specs.Opening.{openingAnswer, opened, afterOpening}
 use Rattle.rules.specs.Effects.{askBook, answer, accepted, stepBy, step}
 use Rattle.rules.specs.Lent.{Lists, worldIn}
-use Rattle.rules.specs.Queries.{LineResult, lineNumber, lineQuery, lineNamed, lineRefused, periodsNumber, periodsQuery, dayNumber}
+use Rattle.rules.specs.Queries.{LineResult, lineNumber, lineQuery, lineNamed, lineRefused, periodsNumber, dayNumber}
 use Rattle.rules.specs.Queries.{lacksHolder}
 use Rattle.rules.specs.Answers.{numberOf, lineResult}
 use Rattle.rules.proofs.Tests.{cases}
@@ -36,12 +35,11 @@ use Rattle.recording.specs.Opened.{freshBook, cleared}
 use Rattle.recording.proofs.ClearLaws.{opened-cleared}
 use Rattle.queries.specs.Promises.{LineAnswered, DayTold}
 use Rattle.queries.proofs.Asks.{line-passed, day-passed}
-use Rattle.queries.proofs.Answered.{line-refused, periods-refused}
+use Rattle.queries.proofs.Answered.{line-refused}
 use Rattle.settlement.specs.declared.Reply.{Reply}
 use Rattle.settlement.specs.Replies.{roomIn, Replied}
 use Rattle.settlement_book.specs.Numbers.{bookIn, numbersIn, lineNumbers, lineAfter, InKrone, dayAfter, dayAnswerNumber}
 use Rattle.settlement_book.specs.Promises.{OpensIn, RepliesIn, LineIn, PeriodsIn, DayIn}
-use Rattle.settlement_book.proofs.Lists.{pair-length}
 
 -- a test that is false of a number that is 0
 not-zero : (n : ℕ) → false ≡ eqb n 0 → n ≢ 0
@@ -110,20 +108,10 @@ module _ (w : World) (s e : ℕ) where
 
 -- ---- the periods
 
-pub periods-length : (w : World) (p e : ℕ) → length (periodsQuery w p e) ≤ length (w .position .tables .links .words)
-unfolding periodsQuery rowsOf
-periods-length w p e =
-    let t = w .position .tables .links in
-    let h = pair-length p e (take (t .used) (t .words)) in
-    let k = length-take (t .used) (t .words) in
-    cases (eqb (periodsNumber w p e) 0) (λ x. rw x (omega arith)) (λ x. rw x (omega arith))
-
-pub periods-no-book : (w : World) (p e : ℕ) (n : ℕ) → n ≡ askBook w 0 → n ≢ 0 → (lent : List ℕ) → PeriodsIn w p e n 0 lent lent
+pub periods-no-book : (w : World) (p e : ℕ) (r : ℕ) → r ≡ askBook w 0 → r ≢ 0 → (p₀ n₀ : ℕ) → PeriodsIn w p e r p₀ p₀ n₀ n₀
 unfolding periodsNumber
-periods-no-book w p e n h z lent =
-    let k : n ≡ periodsNumber w p e = h ∙ sym (book-refused w (λ x. z (h ∙ x)) _) in
-    let q = periods-refused w p e (λ x. z (k ∙ x)) in
-    record { number = k; count = ap length q; rows = rw (← q) }
+periods-no-book w p e r h z p₀ n₀ =
+    record { number = h ∙ sym (book-refused w (λ x. z (h ∙ x)) _); refused = λ _. (refl, refl); answered = λ k. absurd (z k) }
 
 -- ---- a day without a holder
 

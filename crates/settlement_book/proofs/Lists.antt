@@ -1,18 +1,10 @@
--- Stores into a short list, and rows at the front of a longer one.
-use Prim.Native.Nat.{ℕ, _+_, _≤_, _<_}
-use native.Mathlib.Nat.{zero-add}
-use native.Mathlib.Numerals.{add-one}
+-- Stores into every place of a short list.
+use Prim.Native.Nat.{ℕ}
 use native.Mathlib.Omega.{arith}
-use mathlib.Core.Path.{_≡_, refl, sym, ap, _∙_}
-use mathlib.Core.Bool.{Bool}
+use mathlib.Core.Path.{_≡_, refl, ap}
 use mathlib.Core.List.{List, [], _∷_}
 use lib.IntN.{ℤ}
-use lib.ListN.{length, getD, set}
-use lib.Seq.{paste, paste-suc, take-length}
-use Rattle.rules.specs.Basics.{keep}
-use Rattle.rules.specs.Rows.{pairRows}
-use Rattle.rules.proofs.Tests.{cases}
-use Rattle.settlement_book.specs.Numbers.{frontOf}
+use lib.ListN.{length, set}
 
 -- ---- lists of three and nine
 
@@ -41,24 +33,3 @@ three-set (n0 ∷ n1 ∷ n2 ∷ ns) k a b c = ap (λ t. a ∷ b ∷ c ∷ t) (no
 three-set [] k a b c = absurd (omega arith)
 three-set (n0 ∷ []) k a b c = absurd (omega arith)
 three-set (n0 ∷ n1 ∷ []) k a b c = absurd (omega arith)
-
--- ---- rows at the front
-
-module _ (d s : List ℕ) (e : length s ≤ length d) where
-  pub front-more : (i : ℕ) → i < length s → set (paste d 0 s i) i (getD s i 0) ≡ paste d 0 s (i + 1)
-  front-more i l =
-      ap (λ (j : ℕ). set (paste d 0 s i) j (getD s i 0)) (sym (zero-add i))
-      ∙ paste-suc d 0 s i 0 (omega arith) l
-      ∙ ap (paste d 0 s) (sym (add-one i))
-
-  pub front-whole : paste d 0 s (length s) ≡ frontOf s d
-  front-whole = rw (take-length s, zero-add)
-
-keep-length : (f : ℕ → Bool) (xs : List ℕ) → length (keep f xs) ≤ length xs
-unfolding keep
-keep-length f [] = omega arith
-keep-length f (x ∷ xs) = let h = keep-length f xs in cases (f x) (λ t. rw t (omega arith)) (λ t. rw t (omega arith))
-
-pub pair-length : (p e : ℕ) (xs : List ℕ) → length (pairRows p e xs) ≤ length xs
-unfolding pairRows
-pair-length p e xs = keep-length _ xs

@@ -1,9 +1,9 @@
 -- A book, a message and the answers as the numbers that the exported functions take and give.
-use Prim.Native.Nat.{ℕ, _≤_, _<_}
+use Prim.Native.Nat.{ℕ, _<_}
 use mathlib.Core.Path.{_≡_}
-use mathlib.Core.List.{List, [], _∷_, _++_}
+use mathlib.Core.List.{List, [], _∷_}
 use lib.IntN.{ℤ, pos}
-use lib.ListN.{length, getD, drop}
+use lib.ListN.{length, getD}
 use Rattle.rules.specs.declared.Book.{Book}
 use Rattle.rules.specs.declared.Fields.{Fields}
 use Rattle.rules.specs.declared.LineAnswer.{LineAnswer}
@@ -56,7 +56,7 @@ fieldsIn ns =
       value = getD ns 8 0;
     }
 
--- the caller's own numbers have their lengths: of a book, of a book and a message, of a book and a line, and of a book and rows
+-- the caller's own numbers have their lengths: of a book, of a book and a message, and of a book and a line
 abbrev pub SizedBook : (book : List ℕ) → Type 0
 SizedBook book = length book ≡ bookSize
 
@@ -65,10 +65,6 @@ SizedMessage book fields = SizedBook book × (length fields ≡ fieldsSize)
 
 abbrev pub SizedLine : (book : List ℕ) → (line : List ℤ) → Type 0
 SizedLine book line = SizedBook book × (length line ≡ lineSize)
-
--- every period of a point and element has a place
-abbrev pub SizedRows : (book links rows : List ℕ) → Type 0
-SizedRows book links rows = SizedBook book × (length links ≤ length rows)
 
 -- ---- a line: quantity, kroner and billionths
 
@@ -84,11 +80,6 @@ lineAfter (LineAnswer.Refused a) lent = lent
 abbrev pub InKrone : LineAnswer → Type 0
 InKrone (LineAnswer.Line quantity kroner billionths) = billionths < billion
 InKrone (LineAnswer.Refused a) = 0 < billion
-
--- ---- rows at the front of a lent list; those past the last one written stay as lent
-
-abbrev pub frontOf : (rows lent : List ℕ) → List ℕ
-frontOf rows lent = rows ++ drop (length rows) lent
 
 -- ---- a day: 36,525, which stands behind the last day, for none
 

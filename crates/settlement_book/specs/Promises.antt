@@ -12,12 +12,13 @@ use Rattle.rules.specs.Lines.{Measure, line}
 use Rattle.rules.specs.World.{World, bookOf, termsOf, InBook}
 use Rattle.rules.specs.Opening.{openingAnswer, afterOpening}
 use Rattle.rules.specs.Effects.{answer, step, recordsOf}
-use Rattle.rules.specs.Queries.{lineNumber, lineQuery, lineNamed, periodsNumber, periodsQuery, dayNumber, DayNamed, NoDayNamed}
+use Rattle.rules.specs.Queries.{lineNumber, lineQuery, lineNamed, periodsNumber, dayNumber, DayNamed, NoDayNamed}
 use Rattle.rules.specs.Fresh.{freshFacts}
 use Rattle.rules.specs.Claim.{Event, reached}
 use Rattle.ledger.specs.RecordNumbers.{numbersAfter}
+use Rattle.queries.specs.Promises.{PeriodsAt}
 use Rattle.settlement.specs.Replies.{roomIn}
-use Rattle.settlement_book.specs.Numbers.{numbersIn, lineNumbers, frontOf, noDay}
+use Rattle.settlement_book.specs.Numbers.{numbersIn, lineNumbers, noDay}
 
 -- an opening of the world w that leaves the world after, and of the book's numbers
 pub record OpensIn (w after : World) (lent out : List ℕ) (r : ℕ) : Type 0 where
@@ -40,11 +41,11 @@ pub record LineIn (w : World) (supplier element : ℕ) (r : ℕ) (lent out : Lis
       → out ≡ lineNumbers (lineNamed (line (termsOf (w₀ .opening)) (freshFacts (reached w₀ vs .fresh)) Measure.quantity supplier element)
       (line (termsOf (w₀ .opening)) (freshFacts (reached w₀ vs .fresh)) Measure.amount supplier element))
 
--- the periods of a point and element: the rows at the front of the list, and how many there are
-pub record PeriodsIn (w : World) (point element : ℕ) (r n : ℕ) (lent out : List ℕ) : Type 0 where
+-- the periods of a point and element: where they stand in the link table, and how many there are, p₀ and n₀ being both as they were lent
+pub record PeriodsIn (w : World) (point element : ℕ) (r p₀ p n₀ n : ℕ) : Type 0 where
   pub number : r ≡ periodsNumber w point element
-  pub count : n ≡ length (periodsQuery w point element)
-  pub rows : out ≡ frontOf (periodsQuery w point element) lent
+  pub refused : r ≢ 0 → (p ≡ p₀) × (n ≡ n₀)
+  pub answered : r ≡ 0 → PeriodsAt w point element p n
 
 -- the query for a day without a holder
 pub record DayIn (w : World) (point : ℕ) (r lent out : ℕ) : Type 0 where

@@ -1,16 +1,17 @@
 // Every form for any book and any tables, opening, message and queries: questions 2 to 5, then the form for a book that is well formed; and
 // the functions that the static library exports, over numbers and slices. A book is nine numbers in the order of `rules::Book`, a message
 // nine in the order of `rules::Fields`; every table is lent. Where the numbers of a book, a message or a line are too many or too few, the
-// answer is question 3, before anything else is asked.
+// answer is question 3, before anything else is asked. A refusal changes nothing that was lent.
+// A name that ends in `_within` is the form for a book that is well formed. Outside this file only the safe Rust wrapper calls these
+// (`library/src/book.rs`), which sees to what they ask; every other caller takes the forms that ask nothing.
 ghost use mathlib.Core.Path.{_≡_};
 ghost use lib.ListN.{length};
-ghost use Prim.Native.Nat.{_≤_};
 ghost use Rattle.rules.specs.Sizes.{lineSize};
 ghost use Rattle.rules.specs.Whole.{Whole};
 ghost use Rattle.rules.specs.Lent.{Lists, worldIn, given, lent, lendLinks, lendRows, lendLines, left, was};
 ghost use Rattle.settlement.specs.Replies.{Replied};
 ghost use Rattle.settlement_book.specs.Numbers.{bookSize, fieldsSize, bookIn, fieldsIn, freshIn};
-ghost use Rattle.settlement_book.specs.Numbers.{SizedBook, SizedMessage, SizedLine, SizedRows};
+ghost use Rattle.settlement_book.specs.Numbers.{SizedBook, SizedMessage, SizedLine};
 ghost use Rattle.settlement_book.specs.Promises.{OpensIn, RepliesIn, LineIn, PeriodsIn, DayIn};
 
 pub mod numbers;
@@ -19,7 +20,6 @@ pub mod questions;
 use crate::numbers::BOOK_SIZE;
 use crate::numbers::FIELDS_SIZE;
 use crate::numbers::book_of;
-use crate::numbers::copy_front;
 use crate::numbers::fields_of;
 use crate::numbers::put_book;
 use crate::numbers::put_day;
@@ -28,6 +28,7 @@ use crate::numbers::put_reply;
 use crate::questions::Lengths;
 use crate::questions::check_book;
 use crate::questions::check_opening;
+use queries::periods_place;
 use recording::opening::clear_tables;
 use recording::opening::fresh_book;
 use rules::Answer;
@@ -196,7 +197,7 @@ pub extern "C" fn settlement_book_message(
     put_reply(reply, book, count)
 }
 
-// The same of a book that is well formed, and stays so. Cost: as for `settlement::message`.
+// The same of a book that is well formed, and stays so; for the Rust wrapper alone. Cost: as for `settlement::message`.
 #[no_mangle]
 pub extern "C" fn settlement_book_message_within(
     book: &mut [u64],
@@ -240,7 +241,8 @@ pub extern "C" fn settlement_book_message_within(
 
 // ---- the line query
 
-// The quantity, kroner and billionths of a supplier and an element, of a book that is well formed. Constant time.
+// The quantity, kroner and billionths of a supplier and an element, of a book that is well formed. For the Rust wrapper alone. Constant
+// time.
 #[no_mangle]
 pub extern "C" fn settlement_book_line_within(
     book: &[u64],
@@ -306,29 +308,32 @@ pub extern "C" fn settlement_book_line(
 
 // ---- the periods of a point and element
 
-// Everything recorded for a point and an element of a book that is well formed: the rows at the front of the list, and how many.
-// Logarithmic in the rows of the book, linear in those copied.
+// Where everything recorded for a point and an element stands in the link table, of a book that is well formed: the place of the first row,
+// and how many there are. For the Rust wrapper alone. Logarithmic in the rows of the book.
 #[no_mangle]
 pub extern "C" fn settlement_book_periods_within(
     book: &[u64],
     links: &[u64],
     point: u64,
     element: u64,
-    rows: &mut [u64],
+    place: &mut u64,
     count: &mut u64,
 ) -> u64
-    requires { ⌜ (length (now book) ≡ bookSize) × (length (now links) ≤ length (now rows)) ⌝ }
+    requires { ⌜ length (now book) ≡ bookSize ⌝ }
     requires { ⌜ ((o : Lists) × Whole (worldIn (bookIn (now book)) (lendLinks (now links) o))) ⌝ }
     ensures { λ r. ⌜ ((o : Lists) →
         let w = worldIn (bookIn (was book)) (lendLinks (was links) o) in
-        Whole w → PeriodsIn w point element r (left count) (was rows) (left rows)) ⌝ }
+        Whole w → PeriodsIn w point element r (was place) (left place) (was count) (left count)) ⌝ }
 {
     let held = book_of(book);
-    let asked = ask_pair(held, point, element);
-    let part = queries::periods(asked, held, links, point, element);
-    copy_front(part, rows);
-    *count = part.len() as u64;
-    number(asked)
+    let asked = number(ask_pair(held, point, element));
+    if asked != 0 {
+        return asked;
+    }
+    let part = periods_place(held, links, point, element);
+    *place = part.place as u64;
+    *count = part.count as u64;
+    0
 }
 
 // The same of any book and any tables. Linear in what is lent, for the questions of the book.
@@ -346,21 +351,15 @@ pub extern "C" fn settlement_book_periods(
     sent: &[i64],
     point: u64,
     element: u64,
-    rows: &mut [u64],
+    place: &mut u64,
     count: &mut u64,
 ) -> u64
     ensures answers { λ r. ⌜ (let t = lent element_data prices links holders states readings blocks lines sent in
-        SizedRows (was book) (was links) (was rows)
-        → PeriodsIn (worldIn (bookIn (was book)) (t .entry)) point element r (left count) (was rows) (left rows)) ⌝ }
-    ensures otherwise { λ r. ⌜ ((SizedRows (was book) (was links) (was rows) → ⊥)
-        → (r ≡ 3) × (left count ≡ 0) × (left rows ≡ was rows)) ⌝ }
+        SizedBook (was book)
+        → PeriodsIn (worldIn (bookIn (was book)) (t .entry)) point element r (was place) (left place) (was count) (left count)) ⌝ }
+    ensures otherwise { λ r. ⌜ ((SizedBook (was book) → ⊥) → (r ≡ 3) × (left place ≡ was place) × (left count ≡ was count)) ⌝ }
 {
     if book.len() != BOOK_SIZE {
-        *count = 0;
-        return number(Answer::WrongLength);
-    }
-    if rows.len() < links.len() {
-        *count = 0;
         return number(Answer::WrongLength);
     }
     let asked = check_book(
@@ -376,17 +375,16 @@ pub extern "C" fn settlement_book_periods(
         sent,
     );
     if number(asked) == 0 {
-        settlement_book_periods_within(book, links, point, element, rows, count)
+        settlement_book_periods_within(book, links, point, element, place, count)
     } else {
-        *count = 0;
         number(asked)
     }
 }
 
 // ---- a day without a holder
 
-// A day of the month on which the point counts but for a missing holder and has a link, of a book that is well formed. At most 31 days of
-// 66 searches.
+// A day of the month on which the point counts but for a missing holder and has a link, of a book that is well formed. For the Rust wrapper
+// alone. At most 31 days of 66 searches.
 #[no_mangle]
 pub extern "C" fn settlement_book_day_without_holder_within(
     book: &[u64],

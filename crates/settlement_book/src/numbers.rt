@@ -1,6 +1,5 @@
 // A book, a message and the answers as the numbers that the exported functions take and give.
 ghost use mathlib.Core.Path.{_≡_};
-ghost use Prim.Native.Nat.{_≤_};
 ghost use mathlib.Core.Bool.{cond};
 ghost use lib.Dec.{eqb};
 ghost use lib.ListN.{length};
@@ -8,7 +7,7 @@ ghost use Rattle.rules.specs.Answers.{lineResult, numberOf};
 ghost use Rattle.rules.specs.Sizes.{lineSize};
 ghost use Rattle.rules.specs.Lent.{left, was};
 ghost use Rattle.settlement_book.specs.Numbers.{bookSize, fieldsSize, bookIn, numbersIn, fieldsIn};
-ghost use Rattle.settlement_book.specs.Numbers.{lineAfter, InKrone, frontOf, dayAfter, dayAnswerNumber};
+ghost use Rattle.settlement_book.specs.Numbers.{lineAfter, InKrone, dayAfter, dayAnswerNumber};
 use rules::Book;
 use rules::DayAnswer;
 use rules::END_OF_DAYS;
@@ -110,18 +109,6 @@ pub fn put_line(answer: LineAnswer, line: &mut [i64]) -> u64
             0
         }
         LineAnswer::Refused(asked) => number(asked),
-    }
-}
-
-// The rows of a part, at the front of a list. Linear in the part.
-pub fn copy_front(part: &[u64], rows: &mut [u64])
-    requires { ⌜ length (now part) ≤ length (now rows) ⌝ }
-    ensures { λ _. ⌜ left rows ≡ frontOf (was part) (was rows) ⌝ }
-{
-    let mut i = 0;
-    while i < part.len() {
-        rows[i] = part[i];
-        i += 1;
     }
 }
 

@@ -3,11 +3,7 @@ use mathlib.Core.Path.{_≡_, refl, sym, _∙_}
 use Rattle.rules.specs.World.{World}
 use Rattle.rules.specs.Answers.{numberOf}
 use Rattle.rules.specs.Lent.{Lists, worldIn, lendLinks}
-use Rattle.rules.proofs.Parts.{lengths}
-use Rattle.tables.proofs.Right.{whole-rows}
-use Rattle.queries.proofs.Asks.{periods-passed}
-use Rattle.queries.proofs.Answered.{periods-answered, periods-refused}
-use native.Mathlib.Omega.{arith}
+use Rattle.queries.proofs.Answered.{pair-asked, periods-answered, periods-refused}
 use borrow.Author.Needs.{needs}
 use Rattle.queries.proofs.periods.Statement.{statement}
 use Rattle.queries.proofs.periods.Tie as tie
@@ -32,14 +28,7 @@ pair-part-requires c κs =
     let start = start-of yes in
     let a = start .args in
     let known = start .pre (passed yes) in
-    let o = known .0 in
-    let k = periods-passed (world start o) (a .point) (a .element) (known .1) in
-    let n = lengths (world start o) (k .0) .limited in
-    let i = k .1 .0 in
-    let j = k .1 .1 in
-    let points = n .points in
-    let elements = n .elements in
-    (whole-rows (a .book) (lendLinks (a .links .now) o) (k .0) .links, record { point = omega arith; element = omega arith })
+    pair-asked (a .book) (lendLinks (a .links .now) (known .0)) (a .point) (a .element) (known .1)
 
 sub-result : tie.Need-sub-result
 sub-result c = search needs

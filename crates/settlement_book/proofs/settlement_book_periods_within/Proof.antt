@@ -1,48 +1,40 @@
--- Questions 7 and 8, then the part of a well-formed book, copied to the front of the list.
-use mathlib.Core.Path.{_≡_, sym, ap, subst, _∙_}
-use mathlib.Core.List.{List}
-use native.Mathlib.Nat.{le-trans}
-use lib.ListN.{length}
+-- Questions 7 and 8, then the place of the pair in the link table of a well-formed book.
+use mathlib.Core.Path.{_≡_, refl, sym, subst, _∙_}
 use Prim.Native.Nat.{ℕ}
 use Rattle.rules.specs.declared.Book.{Book}
-use Rattle.rules.specs.Answers.{numberOf}
 use Rattle.rules.specs.Lent.{Lists, worldIn, lendLinks}
-use Rattle.rules.specs.Queries.{periodsNumber, periodsQuery}
+use Rattle.rules.specs.Queries.{periodsNumber}
 use Rattle.rules.specs.Whole.{Whole}
 use Rattle.queries.proofs.Asks.{periods-asks}
-use Rattle.settlement_book.specs.Numbers.{bookIn, frontOf}
-use Rattle.settlement_book.proofs.Answers.{periods-length}
+use Rattle.settlement_book.specs.Numbers.{bookIn}
+use Rattle.settlement_book.specs.Promises.{PeriodsIn}
+use Rattle.settlement_book.proofs.Answers.{whole-as}
 use borrow.Author.Needs.{needs}
 use Rattle.settlement_book.proofs.settlement_book_periods_within.Statement.{statement}
 use Rattle.settlement_book.proofs.settlement_book_periods_within.Tie as tie
 
+-- places on the way, from the last back to the first
 abbrev start-of : tie.After-book-of → tie.Start
 start-of c = search
 
-abbrev lent : tie.Start → Lists → Lists
-lent s o = lendLinks (s .args .links .now) o
-
-abbrev named-of : tie.After-ask-pair → tie.After-book-of
+abbrev named-of : tie.After-number → tie.After-book-of
 named-of c = search
 
-abbrev pair-of : tie.After-periods → tie.After-ask-pair
+abbrev pair-of : tie.After-number → tie.After-ask-pair
 pair-of c = search
 
-abbrev found-of : tie.After-copy-front → tie.After-periods
-found-of c = search
+-- everything that is lent, with any other tables
+abbrev lent : tie.After-number → Lists → Lists
+lent c o = lendLinks (start-of (named-of c) .args .links .now) o
 
-module _ (c : tie.After-ask-pair) (o : Lists)
-    (whole : Whole (worldIn (bookIn (start-of (named-of c) .args .book .now)) (lent (start-of (named-of c)) o))) where
+module _ (c : tie.After-number) (o : Lists) (whole : Whole (worldIn (bookIn (start-of (named-of c) .args .book .now)) (lent c o))) where
   -- the book that the numbers name is the one that is asked, and its question is the query's
-  asked : numberOf (c .ask-pair .result)
-      ≡ periodsNumber (worldIn (named-of c .book-of .result) (lent (start-of (named-of c)) o)) (start-of (named-of c) .args .point)
+  asked : c .number .result
+      ≡ periodsNumber (worldIn (named-of c .book-of .result) (lent c o)) (start-of (named-of c) .args .point)
       (start-of (named-of c) .args .element)
   asked =
-      let named = named-of c in
-      let o′ = lent (start-of named) o in
-      c .ask-pair .ensures
-      ∙ periods-asks (worldIn (named .book-of .result) o′)
-      (subst (λ (b : Book). Whole (worldIn b o′)) (sym (named .book-of .ensures)) whole) _ _
+      c .number .ensures ∙ pair-of c .ask-pair .ensures
+      ∙ periods-asks (worldIn (named-of c .book-of .result) (lent c o)) (whole-as (named-of c .book-of .ensures) whole) _ _
 
 book-of-requires : tie.Need-book-of-requires
 book-of-requires c κs = search needs
@@ -50,42 +42,35 @@ book-of-requires c κs = search needs
 ask-pair-requires : tie.Need-ask-pair-requires
 ask-pair-requires c κs = search needs
 
-periods-requires : tie.Need-periods-requires
-periods-requires c κs e =
-    let pair : tie.After-ask-pair = search in
-    let start = start-of (named-of pair) in
-    (start .pre .1 .0, sym (asked pair (start .pre .1 .0) (start .pre .1 .1)) ∙ e)
-
-copy-front-requires : tie.Need-copy-front-requires
-copy-front-requires c κs =
-    let found : tie.After-periods = search in
-    let pair = pair-of found in
-    let start = start-of (named-of pair) in
-    rw (found .periods .ensures .0 (start .pre .1 .0) (asked pair (start .pre .1 .0) (start .pre .1 .1)))
-    (le-trans (periods-length _ _ _) (start .pre .0 .1))
-
 number-requires : tie.Need-number-requires
 number-requires c κs = search needs
 
-same-length : tie.Need-same-length
-same-length c = search needs
-
 returns : tie.Need-returns
 returns c o whole =
-    let copied : tie.After-copy-front = search in
-    let found = found-of copied in
-    let pair = pair-of found in
-    let named = named-of pair in
-    let start = start-of named in
-    let a = start .args in
-    let e = named .book-of .ensures in
-    let k = asked pair o whole in
-    let rows = found .periods .ensures .0 o k ∙ ap (λ (b : Book). periodsQuery (worldIn b (lent start o)) (a .point) (a .element)) e in
-    record {
-      number = c .number .ensures ∙ k ∙ ap (λ (b : Book). periodsNumber (worldIn b (lent start o)) (a .point) (a .element)) e;
-      count = ap length rows;
-      rows = copied .copy-front .ensures ∙ ap (λ (x : List ℕ). frontOf x (a .rows .now)) rows;
-    }
+    let numbered : tie.After-number = search in
+    let a = start-of (named-of numbered) .args in
+    subst (λ (b : Book). PeriodsIn (worldIn b (lent numbered o)) (a .point) (a .element) (numbered .number .result) (a .place .now)
+    (a .place .now) (a .count .now) (a .count .now)) (named-of numbered .book-of .ensures)
+    (record { number = asked numbered o whole; refused = λ _. (refl, refl); answered = λ z. absurd (c .if1 .taken z) })
+
+periods-place-requires : tie.Need-periods-place-requires
+periods-place-requires c κs =
+    let numbered : tie.After-number = search in
+    let passed : tie.Else1 = search in
+    let known = start-of (named-of numbered) .pre .1 in
+    (known .0, sym (asked numbered (known .0) (known .1)) ∙ passed .if1 .left)
+
+returns-2 : tie.Need-returns-2
+returns-2 c o whole =
+    let numbered : tie.After-number = search in
+    let passed : tie.Else1 = search in
+    let found : tie.After-periods-place = search in
+    let a = start-of (named-of numbered) .args in
+    let part = found .periods-place .result in
+    let k = sym (asked numbered o whole) ∙ passed .if1 .left in
+    subst (λ (b : Book). PeriodsIn (worldIn b (lent numbered o)) (a .point) (a .element) 0 (a .place .now) (part .place) (a .count .now)
+    (part .count)) (named-of numbered .book-of .ensures)
+    (record { number = sym k; refused = λ z. absurd (z refl); answered = λ _. found .periods-place .ensures o k })
 
 pub settlement-book-periods-within-spec : {M : Type 1} → statement M
 settlement-book-periods-within-spec =
@@ -93,8 +78,7 @@ settlement-book-periods-within-spec =
     (tie.spec
     book-of-requires
     ask-pair-requires
-    periods-requires
-    copy-front-requires
     number-requires
-    same-length
-    returns)
+    returns
+    periods-place-requires
+    returns-2)
