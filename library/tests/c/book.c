@@ -1,0 +1,492 @@
+/* The functions of settlement_book.h, called from C: document 01's worked example (March 2024) with queries, refusals, and wrong lengths
+ * for every function. Prints a line for each expectation that fails and ends with status 1, or prints how many held.
+ *
+ * Everything that is lent lies in one block of memory with guard bytes around each part, so that comparing the block with a copy of it
+ * says which parts a call has written, and that it wrote nothing outside them. */
+#include <inttypes.h>
+#include <stdio.h>
+#include <stdlib.h>
+#include <string.h>
+
+#include "settlement_book.h"
+
+/* ---- the month */
+
+#define YEAR 2024
+#define MONTH 3
+#define DAYS 31
+#define FIRST_DAY 8826
+#define POINTS 1
+#define SUPPLIERS 2
+#define ELEMENTS 2
+#define LINE_COUNT (SUPPLIERS * ELEMENTS)
+
+static const uint8_t element_data[ELEMENTS * SETTLEMENT_BOOK_ELEMENT_SIZE] = {
+    1, 1, 0, /* a subscription of the grid company */
+    3, 1, 0, /* a day tariff of the grid company */
+};
+
+static const int64_t prices[ELEMENTS * SETTLEMENT_BOOK_ELEMENT_PRICES] = {
+    [0] = 20000000,
+    [SETTLEMENT_BOOK_ELEMENT_PRICES] = 500000,
+};
+
+/* two of the book's numbers */
+#define YEAR_AT 0
+#define ROUND_AT 8
+
+/* ---- what is lent */
+
+enum part {
+    BOOK,
+    ELEMENT_DATA,
+    PRICES,
+    LINKS,
+    HOLDERS,
+    STATES,
+    READINGS,
+    BLOCKS,
+    LINES,
+    SENT,
+    RECORDS,
+    FIELDS,
+    LINE,
+    PLACE,
+    COUNT,
+    DAY,
+    PARTS
+};
+
+#define ONLY(part) (1u << (part))
+#define NOTHING 0u
+/* what an opening and a message write; a message the count too, and a round the records */
+#define WRITTEN (ONLY(BOOK) | ONLY(LINKS) | ONLY(HOLDERS) | ONLY(STATES) | ONLY(READINGS) | ONLY(BLOCKS) | ONLY(LINES) | ONLY(SENT))
+
+/* one more record than a round of this book can have */
+#define ROOM (LINE_COUNT + 1)
+
+static const struct {
+    size_t width, length;
+} shape[PARTS] = {
+    [BOOK] = {sizeof(uint64_t), SETTLEMENT_BOOK_SIZE},
+    [ELEMENT_DATA] = {sizeof(uint8_t), ELEMENTS * SETTLEMENT_BOOK_ELEMENT_SIZE},
+    [PRICES] = {sizeof(int64_t), ELEMENTS * SETTLEMENT_BOOK_ELEMENT_PRICES},
+    [LINKS] = {sizeof(uint64_t), SETTLEMENT_BOOK_ROWS},
+    [HOLDERS] = {sizeof(uint64_t), SETTLEMENT_BOOK_ROWS},
+    [STATES] = {sizeof(uint64_t), SETTLEMENT_BOOK_ROWS},
+    [READINGS] = {sizeof(uint32_t), POINTS * DAYS * SETTLEMENT_BOOK_DAY_READINGS},
+    [BLOCKS] = {sizeof(uint8_t), POINTS},
+    [LINES] = {sizeof(int64_t), LINE_COUNT * SETTLEMENT_BOOK_LINE_SIZE},
+    [SENT] = {sizeof(int64_t), LINE_COUNT * SETTLEMENT_BOOK_LINE_SIZE},
+    [RECORDS] = {sizeof(int64_t), ROOM * SETTLEMENT_BOOK_RECORD_SIZE},
+    [FIELDS] = {sizeof(uint64_t), SETTLEMENT_BOOK_FIELDS_SIZE},
+    [LINE] = {sizeof(int64_t), SETTLEMENT_BOOK_LINE_SIZE},
+    [PLACE] = {sizeof(uint64_t), 1},
+    [COUNT] = {sizeof(uint64_t), 1},
+    [DAY] = {sizeof(uint64_t), 1},
+};
+
+/* guard bytes before the first part and behind each; parts begin at multiples of it */
+#define GUARD 64
+#define GUARD_BYTE 0xa5
+/* whatever stood in the parts before */
+#define STALE_BYTE 0x5a
+
+static unsigned char *memory, *copy;
+static size_t memory_size;
+static void *start[PARTS];
+/* the length that a call says: a test may say another than the part has */
+static size_t length[PARTS];
+
+static size_t size_of(enum part part) { return shape[part].width * shape[part].length; }
+
+static size_t place_of(enum part part) { return (size_t)((unsigned char *)start[part] - memory); }
+
+static void *allocate(size_t size) {
+    void *block = malloc(size);
+    if (block == NULL) {
+        printf("failed: no memory\n");
+        exit(1);
+    }
+    return block;
+}
+
+static void lend(void) {
+    size_t places[PARTS];
+    memory_size = GUARD;
+    for (int part = 0; part < PARTS; part++) {
+        places[part] = memory_size;
+        memory_size += (size_of(part) + GUARD - 1) / GUARD * GUARD + GUARD;
+    }
+    memory = allocate(memory_size);
+    copy = allocate(memory_size);
+    memset(memory, GUARD_BYTE, memory_size);
+    for (int part = 0; part < PARTS; part++) {
+        start[part] = memory + places[part];
+        length[part] = shape[part].length;
+        memset(start[part], STALE_BYTE, size_of(part));
+    }
+    memcpy(start[ELEMENT_DATA], element_data, sizeof element_data);
+    memcpy(start[PRICES], prices, sizeof prices);
+}
+
+static uint64_t *numbers(enum part part) { return start[part]; }
+
+static int64_t *amounts(enum part part) { return start[part]; }
+
+/* ---- expectations */
+
+static unsigned held, failed;
+
+static void expect(const char *call, const char *what, int holds) {
+    if (holds) {
+        held++;
+    } else {
+        failed++;
+        printf("failed: %s: %s\n", call, what);
+    }
+}
+
+static void expect_number(const char *call, const char *what, int64_t found, int64_t expected) {
+    if (found == expected) {
+        held++;
+    } else {
+        failed++;
+        printf("failed: %s: %s is %" PRId64 ", not %" PRId64 "\n", call, what, found, expected);
+    }
+}
+
+/* Has nothing changed since the copy but the parts that may? */
+static int changed_only(unsigned may) {
+    size_t at = 0;
+    for (int part = 0; part < PARTS; part++) {
+        size_t from = place_of(part), to = from + size_of(part);
+        if (memcmp(memory + at, copy + at, from - at) != 0) {
+            return 0;
+        }
+        if (!(may & ONLY(part)) && memcmp(memory + from, copy + from, to - from) != 0) {
+            return 0;
+        }
+        at = to;
+    }
+    return memcmp(memory + at, copy + at, memory_size - at) == 0;
+}
+
+/* ---- the calls */
+
+#define SLICE(type, part) (type *)start[part], length[part]
+#define TABLES                                                                                          \
+    SLICE(uint64_t, BOOK), SLICE(uint8_t, ELEMENT_DATA), SLICE(int64_t, PRICES), SLICE(uint64_t, LINKS), \
+        SLICE(uint64_t, HOLDERS), SLICE(uint64_t, STATES), SLICE(uint32_t, READINGS),                    \
+        SLICE(uint8_t, BLOCKS), SLICE(int64_t, LINES), SLICE(int64_t, SENT)
+
+/* what a query asks for */
+static uint64_t asked_supplier, asked_point, asked_element;
+
+static uint64_t call_open(void) { return settlement_book_open(TABLES); }
+
+static uint64_t call_message(void) {
+    return settlement_book_message(TABLES, SLICE(int64_t, RECORDS), SLICE(uint64_t, FIELDS), numbers(COUNT));
+}
+
+static uint64_t call_line(void) {
+    return settlement_book_line(TABLES, asked_supplier, asked_element, SLICE(int64_t, LINE));
+}
+
+static uint64_t call_periods(void) {
+    return settlement_book_periods(TABLES, asked_point, asked_element, numbers(PLACE), numbers(COUNT));
+}
+
+static uint64_t call_day(void) { return settlement_book_day_without_holder(TABLES, asked_point, numbers(DAY)); }
+
+#define EVERY_TABLE ((1u << (SENT + 1)) - 1)
+
+static const struct function {
+    const char *name;
+    uint64_t (*call)(void);
+    /* the slices whose lengths question 3 asks */
+    unsigned slices;
+} functions[] = {
+    {"settlement_book_open", call_open, EVERY_TABLE},
+    {"settlement_book_message", call_message, EVERY_TABLE | ONLY(FIELDS)},
+    {"settlement_book_line", call_line, EVERY_TABLE | ONLY(LINE)},
+    {"settlement_book_periods", call_periods, EVERY_TABLE},
+    {"settlement_book_day_without_holder", call_day, EVERY_TABLE},
+};
+
+enum { OPEN, MESSAGE, QUERY_LINE, QUERY_PERIODS, QUERY_DAY, FUNCTIONS };
+
+/* Calls a function that is to give an answer and to change nothing but the parts that it may. What it may give beside the answer holds
+ * something else before, so that a number written too much is seen. */
+static void call(int function, const char *what, uint64_t answer, unsigned may) {
+    static const enum part given[] = {RECORDS, LINE, PLACE, COUNT, DAY};
+    for (size_t i = 0; i < sizeof given / sizeof given[0]; i++) {
+        memset(start[given[i]], STALE_BYTE, size_of(given[i]));
+    }
+    memcpy(copy, memory, memory_size);
+    uint64_t found = functions[function].call();
+    expect_number(what, "the answer", (int64_t)found, (int64_t)answer);
+    expect(what, "nothing else changes", changed_only(may));
+}
+
+static void message(const char *what, const uint64_t fields[SETTLEMENT_BOOK_FIELDS_SIZE], uint64_t answer, unsigned may) {
+    memcpy(start[FIELDS], fields, size_of(FIELDS));
+    call(MESSAGE, what, answer, may);
+}
+
+/* A message that is no round: it is accepted, and there is no record. */
+static void accepted(const char *what, const uint64_t fields[SETTLEMENT_BOOK_FIELDS_SIZE]) {
+    message(what, fields, SETTLEMENT_BOOK_ACCEPTED, WRITTEN | ONLY(COUNT));
+    expect_number(what, "the count", (int64_t)*numbers(COUNT), 0);
+}
+
+static const uint64_t round_message[] = {8, 2, 0, FIRST_DAY, 0, 0, 0, 0, 0};
+
+/* A round with these records, and nothing written behind them. */
+static void round_with(const char *what, const int64_t *records, size_t count) {
+    message(what, round_message, SETTLEMENT_BOOK_ACCEPTED, WRITTEN | ONLY(COUNT) | ONLY(RECORDS));
+    size_t size = count * SETTLEMENT_BOOK_RECORD_SIZE * sizeof *records, from = place_of(RECORDS);
+    expect_number(what, "the count", (int64_t)*numbers(COUNT), (int64_t)count);
+    expect(what, "the records", memcmp(start[RECORDS], records, size) == 0);
+    expect(what, "what is behind them", memcmp(memory + from + size, copy + from + size, size_of(RECORDS) - size) == 0);
+}
+
+static void line_is(uint64_t supplier, uint64_t element, int64_t quantity, int64_t kroner, int64_t billionths) {
+    asked_supplier = supplier;
+    asked_element = element;
+    call(QUERY_LINE, "line", SETTLEMENT_BOOK_ACCEPTED, ONLY(LINE));
+    expect_number("line", "the quantity", amounts(LINE)[0], quantity);
+    expect_number("line", "the kroner", amounts(LINE)[1], kroner);
+    expect_number("line", "the billionths", amounts(LINE)[2], billionths);
+}
+
+static void line_refused(uint64_t supplier, uint64_t element, uint64_t question) {
+    asked_supplier = supplier;
+    asked_element = element;
+    call(QUERY_LINE, "line that is refused", question, NOTHING);
+}
+
+static void periods_at(uint64_t element, uint64_t place, uint64_t count) {
+    asked_point = 0;
+    asked_element = element;
+    call(QUERY_PERIODS, "periods", SETTLEMENT_BOOK_ACCEPTED, ONLY(PLACE) | ONLY(COUNT));
+    expect_number("periods", "the place", (int64_t)*numbers(PLACE), (int64_t)place);
+    expect_number("periods", "the count", (int64_t)*numbers(COUNT), (int64_t)count);
+}
+
+static void periods_refused(uint64_t point, uint64_t element, uint64_t question) {
+    asked_point = point;
+    asked_element = element;
+    call(QUERY_PERIODS, "periods that are refused", question, NOTHING);
+}
+
+static void period_is(size_t row, uint64_t element, uint64_t first, uint64_t past, uint64_t quantity) {
+    uint64_t word = numbers(LINKS)[row];
+    expect_number("period", "the point", (int64_t)SETTLEMENT_BOOK_PERIOD_POINT(word), 0);
+    expect_number("period", "the element", (int64_t)SETTLEMENT_BOOK_PERIOD_ELEMENT(word), (int64_t)element);
+    expect_number("period", "the first day", (int64_t)SETTLEMENT_BOOK_PERIOD_FIRST(word), (int64_t)first);
+    expect_number("period", "the day past it", (int64_t)SETTLEMENT_BOOK_PERIOD_PAST(word), (int64_t)past);
+    expect_number("period", "the quantity", (int64_t)SETTLEMENT_BOOK_PERIOD_QUANTITY(word), (int64_t)quantity);
+}
+
+static void day_is(uint64_t day) {
+    asked_point = 0;
+    call(QUERY_DAY, "day without a holder", SETTLEMENT_BOOK_ACCEPTED, ONLY(DAY));
+    expect_number("day without a holder", "the day", (int64_t)*numbers(DAY), (int64_t)day);
+}
+
+/* ---- the tests */
+
+static void set_month(uint64_t year, uint64_t month) {
+    const uint64_t named[] = {year, month, POINTS, SUPPLIERS, ELEMENTS};
+    memcpy(start[BOOK], named, sizeof named);
+}
+
+/* The opening clears whatever stood in the tables; one that is refused leaves it. */
+static void opening(void) {
+    set_month(YEAR, 13);
+    call(OPEN, "opening of month 13", 2, NOTHING);
+    set_month(1999, MONTH);
+    call(OPEN, "opening of 1999", 2, NOTHING);
+    set_month(YEAR, MONTH);
+    ((uint8_t *)start[ELEMENT_DATA])[0] = 4;
+    call(OPEN, "opening with an element of kind 4", 4, NOTHING);
+    ((uint8_t *)start[ELEMENT_DATA])[0] = element_data[0];
+
+    call(OPEN, "opening", SETTLEMENT_BOOK_ACCEPTED, WRITTEN);
+    const uint64_t fresh[SETTLEMENT_BOOK_SIZE] = {YEAR, MONTH, POINTS, SUPPLIERS, ELEMENTS, 0, 0, 0, 1};
+    expect("opening", "the book's numbers", memcmp(start[BOOK], fresh, sizeof fresh) == 0);
+    for (int part = LINKS; part <= SENT; part++) {
+        size_t nonzero = 0;
+        for (size_t at = 0; at < size_of(part); at++) {
+            nonzero += ((unsigned char *)start[part])[at] != 0;
+        }
+        expect_number("opening", "bytes of a table that are not 0", (int64_t)nonzero, 0);
+    }
+    periods_at(0, 0, 0);
+    line_is(1, 0, 0, 0, 0);
+    day_is(SETTLEMENT_BOOK_NO_DAY);
+}
+
+/* Document 01's messages and records; the last is refused. */
+static void worked_example(void) {
+    static const uint64_t messages[][SETTLEMENT_BOOK_FIELDS_SIZE] = {
+        {5, 1, 0, FIRST_DAY, 0, 0, FIRST_DAY, 0, 2}, /* connected */
+        {4, 2, 0, FIRST_DAY, 0, 0, FIRST_DAY, 0, 1}, /* holder 1 */
+        {4, 2, 0, FIRST_DAY, 0, 0, 8841, 0, 2},      /* holder 2 */
+        {1, 1, 0, FIRST_DAY, 0, 0, FIRST_DAY, 0, 2}, /* element 0, twice */
+        {1, 1, 0, FIRST_DAY, 0, 1, FIRST_DAY, 0, 1}, /* element 1 */
+        {6, 1, 0, FIRST_DAY, 0, 0, 8840, 23, 1000},  /* 1,000 Wh */
+        {6, 1, 0, FIRST_DAY, 0, 0, 8841, 0, 3000},   /* 3,000 Wh */
+    };
+    static const int64_t fixing[][SETTLEMENT_BOOK_RECORD_SIZE] = {
+        {1, 1, 0, 30, 19, 354830000},
+        {1, 1, 1, 1000, 0, 500000000},
+        {1, 2, 0, 32, 20, 645152000},
+        {1, 2, 1, 3000, 1, 500000000},
+    };
+    static const int64_t refixing[][SETTLEMENT_BOOK_RECORD_SIZE] = {{2, 2, 1, -500, -1, 750000000}};
+    static const uint64_t reading[] = {6, 1, 0, FIRST_DAY, 0, 0, 8841, 0, 2500};
+    static const uint64_t again[] = {1, 1, 0, FIRST_DAY, 0, 0, 8830, 0, 1};
+
+    for (size_t i = 0; i < sizeof messages / sizeof messages[0]; i++) {
+        accepted("message of the example", messages[i]);
+    }
+    round_with("fixing", fixing[0], sizeof fixing / sizeof fixing[0]);
+    accepted("reading after the fixing", reading);
+    round_with("refixing", refixing[0], sizeof refixing / sizeof refixing[0]);
+    message("link of a day that is linked", again, 13, NOTHING);
+
+    line_is(1, 0, 30, 19, 354830000);
+    line_is(1, 1, 1000, 0, 500000000);
+    line_is(2, 0, 32, 20, 645152000);
+    line_is(2, 1, 2500, 1, 250000000);
+    line_refused(0, 0, 6);
+    line_refused(SUPPLIERS + 1, 0, 6);
+    line_refused(1, ELEMENTS, 8);
+}
+
+/* One message for each question that this book can be brought to say no by. */
+static void refused_messages(void) {
+    static const struct {
+        uint64_t question, fields[SETTLEMENT_BOOK_FIELDS_SIZE];
+    } refused[] = {
+        {6, {0, 1, 0, FIRST_DAY, 0, 0, FIRST_DAY, 0, 1}},                        /* kind 0 */
+        {6, {1, 1, 0, FIRST_DAY, 0, 0, SETTLEMENT_BOOK_NO_DAY, 0, 1}},           /* behind the last day */
+        {6, {UINT64_MAX, UINT64_MAX, UINT64_MAX, UINT64_MAX, UINT64_MAX, 0, 0, 0, 0}},
+        {7, {7, 1, 0, FIRST_DAY, POINTS, 0, 0, 0, 1}},                           /* point 1 */
+        {8, {2, 1, 0, FIRST_DAY, 0, ELEMENTS, FIRST_DAY, 0, 0}},                 /* element 2 */
+        {9, {1, 2, 0, FIRST_DAY, 0, 0, FIRST_DAY, 0, 1}},                        /* Energinet */
+        {10, {1, 1, 0, FIRST_DAY, 0, 0, FIRST_DAY - 91, 0, 1}},                  /* 91 days before */
+        {11, {1, 1, 0, FIRST_DAY, 0, 0, FIRST_DAY - 1, 0, 1}},                   /* before the first state */
+        {14, {2, 1, 0, FIRST_DAY, 0, 0, FIRST_DAY, 0, 0}},                       /* no day before */
+        {15, {3, 1, 0, FIRST_DAY, 0, 1, FIRST_DAY, 0, 2}},                       /* a tariff */
+        {16, {6, 1, 0, FIRST_DAY, 0, 0, FIRST_DAY + DAYS, 0, 1}},                /* after the month */
+    };
+    for (size_t i = 0; i < sizeof refused / sizeof refused[0]; i++) {
+        message("message that is refused", refused[i].fields, refused[i].question, NOTHING);
+    }
+}
+
+/* A round whose record has no room, and the same with room for one. */
+static void short_list(void) {
+    static const uint64_t reading[] = {6, 1, 0, FIRST_DAY, 0, 0, 8841, 0, 2600};
+    static const int64_t later[][SETTLEMENT_BOOK_RECORD_SIZE] = {{3, 2, 1, 100, 0, 50000000}};
+    accepted("reading before a short list", reading);
+    length[RECORDS] = SETTLEMENT_BOOK_RECORD_SIZE - 1;
+    message("round with a short list", round_message, 18, NOTHING);
+    length[RECORDS] = SETTLEMENT_BOOK_RECORD_SIZE;
+    round_with("round with room for one", later[0], 1);
+    length[RECORDS] = shape[RECORDS].length;
+}
+
+static void periods(void) {
+    static const uint64_t quantity[] = {3, 1, 0, FIRST_DAY, 0, 0, 8830, 0, 5};
+    periods_at(0, 0, 1);
+    period_is(0, 0, FIRST_DAY, SETTLEMENT_BOOK_NO_DAY, 2);
+    periods_at(1, 1, 1);
+    period_is(1, 1, FIRST_DAY, SETTLEMENT_BOOK_NO_DAY, 1);
+    accepted("another quantity", quantity);
+    periods_at(0, 0, 2);
+    period_is(0, 0, FIRST_DAY, 8830, 2);
+    period_is(1, 0, 8830, SETTLEMENT_BOOK_NO_DAY, 5);
+    periods_at(1, 2, 1);
+    period_is(2, 1, FIRST_DAY, SETTLEMENT_BOOK_NO_DAY, 1);
+    periods_refused(POINTS, 0, 7);
+    periods_refused(0, ELEMENTS, 8);
+}
+
+static void days_without_holder(void) {
+    static const uint64_t nobody[] = {4, 2, 0, FIRST_DAY, 0, 0, 8850, 0, 0};
+    day_is(SETTLEMENT_BOOK_NO_DAY);
+    accepted("no holder from day 8850", nobody);
+    asked_point = 0;
+    call(QUERY_DAY, "day without a holder", SETTLEMENT_BOOK_ACCEPTED, ONLY(DAY));
+    const uint64_t day = *numbers(DAY);
+    expect("day without a holder", "a day from 8850 on in the month", day >= 8850 && day < FIRST_DAY + DAYS);
+    asked_point = POINTS;
+    call(QUERY_DAY, "day without a holder that is refused", 7, NOTHING);
+}
+
+/* What every function accepts but for what the next two tests change. */
+static void ask_for_what_is_there(void) {
+    static const uint64_t reading[] = {6, 1, 0, FIRST_DAY, 0, 0, FIRST_DAY, 0, 700};
+    memcpy(start[FIELDS], reading, sizeof reading);
+    asked_supplier = 1;
+    asked_point = 0;
+    asked_element = 0;
+}
+
+/* Of every function, every length: none, one too few and one too many. */
+static void wrong_lengths(void) {
+    ask_for_what_is_there();
+    for (int function = 0; function < FUNCTIONS; function++) {
+        for (int part = 0; part < PARTS; part++) {
+            if (!(functions[function].slices & ONLY(part))) {
+                continue;
+            }
+            const size_t wrong[] = {0, shape[part].length - 1, shape[part].length + 1};
+            for (size_t i = 0; i < sizeof wrong / sizeof wrong[0]; i++) {
+                length[part] = wrong[i];
+                call(function, functions[function].name, SETTLEMENT_BOOK_WRONG_LENGTH, NOTHING);
+            }
+            length[part] = shape[part].length;
+        }
+    }
+}
+
+/* A book of another century, and one whose next round has no kind: an opening asks only the first. */
+static void wrong_books(void) {
+    ask_for_what_is_there();
+    const uint64_t round = numbers(BOOK)[ROUND_AT];
+    for (int function = 0; function < FUNCTIONS; function++) {
+        numbers(BOOK)[YEAR_AT] = 1999;
+        call(function, functions[function].name, 2, NOTHING);
+        numbers(BOOK)[YEAR_AT] = YEAR;
+        if (function != OPEN) {
+            numbers(BOOK)[ROUND_AT] = 0;
+            call(function, functions[function].name, 5, NOTHING);
+            numbers(BOOK)[ROUND_AT] = round;
+        }
+    }
+    call(MESSAGE, "the reading of the tests above", SETTLEMENT_BOOK_ACCEPTED, WRITTEN | ONLY(COUNT));
+}
+
+int main(void) {
+    lend();
+    opening();
+    worked_example();
+    refused_messages();
+    short_list();
+    periods();
+    days_without_holder();
+    wrong_lengths();
+    wrong_books();
+    free(memory);
+    free(copy);
+    if (failed > 0) {
+        return 1;
+    }
+    printf("%u expectations of the library from C held\n", held);
+    return 0;
+}
