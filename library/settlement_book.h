@@ -55,15 +55,14 @@
  * The tables that are lent with it, in this order:
  *    element_data  3 bytes an element: kind (1 subscription, 2 fee, 3 tariff), owner (1 grid company, 2 Energinet) and the sum of its
  *                  marks (1 VAT, 2 pass-on, 4 tax, 8 hourly prices)
- *    prices        24 an element, in millionths of a krone; other than an hourly tariff it has one price and then 23 times 0
+ *    prices        24 an element, in millionths of a krone: one for each hour of an hourly tariff, else one and then 23 times 0
  *    links         1,024 words: the periods, sorted by point, element and first day; 0 behind the last
  *    holders       1,024 words, sorted by point and first day; 0 behind the last
  *    states        likewise
- *    readings      24 a point and day of the month, in Wh: points, then days, then hours
+ *    readings      24 a point and day of the month, in Wh: by point, then day, then hour
  *    blocks        one a point: 1 where it is blocked
- *    lines         3 numbers a supplier and element, as below: suppliers from 1, then elements
- *    sent          the same for what the rounds so far have sent
- */
+ *    lines         3 numbers a supplier and element, as below: by supplier, then element
+ *    sent          the same for what the rounds so far have sent */
 #define SETTLEMENT_BOOK_SIZE 9
 #define SETTLEMENT_BOOK_ELEMENT_SIZE 3
 #define SETTLEMENT_BOOK_ELEMENT_PRICES 24
