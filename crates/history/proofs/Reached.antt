@@ -62,7 +62,8 @@ module _ (w after : World) (fs : List Fields) (count : ℕ) (lent out : List ℤ
         kept = k;
         world = g .world;
         records = read-back;
-        fresh = λ s e b. ap (λ (x : World). lineQuery x s e) (g .world) ∙ k .fresh s e b;
+        fresh = λ s e b. rw (g .world) (k .fresh s e b);
+        sums = λ s e b. rw (g .world) (k .sums s e b);
         rounds = rounds-add;
       }
 

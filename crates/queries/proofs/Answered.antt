@@ -43,7 +43,12 @@ place-small elements s h k =
 
 module _ (w : World) (s e : ℕ) where
   line-told : (r : LineAnswer) → isLine r ≡ eqb (lineNumber w s e) 0 → lineResult r ≡ lineQuery w s e → LineAnswered w s e r
-  line-told r t h = record { told = t; stored = h; settled = λ w₀ vs a i b. h ∙ ap (λ x. lineQuery x s e) i ∙ demand3 w₀ a vs .fresh s e b }
+  line-told r t h = record {
+    told = t;
+    stored = h;
+    sums = λ w₀ vs a i b. h ∙ rw i (demand3 w₀ a vs .sums s e b);
+    settled = λ w₀ vs a i b. h ∙ rw i (demand3 w₀ a vs .fresh s e b);
+  }
 
   -- ---- refused
 

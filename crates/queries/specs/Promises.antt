@@ -7,10 +7,9 @@ use lib.Dec.{eqb}
 use lib.ListN.{length, take, drop}
 use Rattle.rules.specs.declared.LineAnswer.{LineAnswer}
 use Rattle.rules.specs.declared.DayAnswer.{DayAnswer}
-use Rattle.rules.specs.Lines.{Measure, line}
-use Rattle.rules.specs.World.{World, rowsOf, termsOf, InBook}
+use Rattle.rules.specs.World.{World, rowsOf, InBook}
 use Rattle.rules.specs.Opening.{openingAnswer}
-use Rattle.rules.specs.Queries.{lineNumber, lineQuery, lineNamed, periodsQuery, dayNumber}
+use Rattle.rules.specs.Queries.{lineNumber, lineQuery, lineGiven, ownLine, periodsQuery, dayNumber}
 use Rattle.rules.specs.Answers.{lineResult, DayAnswered}
 use Rattle.rules.specs.Fresh.{freshFacts}
 use Rattle.rules.specs.Claim.{Event, reached}
@@ -26,9 +25,11 @@ isLine (LineAnswer.Refused a) = false
 pub record LineAnswered (w : World) (supplier element : ℕ) (r : LineAnswer) : Type 0 where
   pub told : isLine r ≡ eqb (lineNumber w supplier element) 0
   pub stored : lineResult r ≡ lineQuery w supplier element
+  -- for a book reached from an opening: the rules' sums of its own tables, which are those of fresh settlement
+  pub sums : (w₀ : World) (vs : List Event) → openingAnswer w₀ ≡ 0 → w ≡ reached w₀ vs .world → InBook (w₀ .opening) supplier element
+      → lineResult r ≡ ownLine w supplier element
   pub settled : (w₀ : World) (vs : List Event) → openingAnswer w₀ ≡ 0 → w ≡ reached w₀ vs .world → InBook (w₀ .opening) supplier element
-      → lineResult r ≡ lineNamed (line (termsOf (w₀ .opening)) (freshFacts (reached w₀ vs .fresh)) Measure.quantity supplier element)
-      (line (termsOf (w₀ .opening)) (freshFacts (reached w₀ vs .fresh)) Measure.amount supplier element)
+      → lineResult r ≡ lineGiven (w₀ .opening) (freshFacts (reached w₀ vs .fresh)) supplier element
 
 -- the part of the link table that holds a point and an element: behind the rows in use of earlier points and elements, as many rows as
 -- there are

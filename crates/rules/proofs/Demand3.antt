@@ -26,7 +26,7 @@ use Rattle.rules.specs.Questions.{pointOf}
 use Rattle.rules.specs.Effects.{told, movedLine, movedLines, isRound, sentAfter, records, written, writtenBy, recordsOf, tablesAfter}
 use Rattle.rules.specs.Effects.{linesAfter, posted, question17, answer, accepted, stepBy, step}
 use Rattle.rules.specs.Opening.{openingAnswer, opened}
-use Rattle.rules.specs.Queries.{lineQuery, lineNamed, named}
+use Rattle.rules.specs.Queries.{lineQuery, lineNamed, lineGiven, ownLine, named}
 use Rattle.rules.specs.Fresh.{Fresh, heard, heardBody, hear, freshFacts}
 use Rattle.rules.specs.Claim.{Event, History, advance, advanceAll, begin, total, Holds, reachedLimit, Kept, Demand3}
 use Rattle.rules.proofs.Tests.{cases, both}
@@ -185,10 +185,13 @@ module _ (h : History) (o : Opening) (i : Inv o h) where
       → stored (h .world .opening) (h .world .position .lines) m s e ≡ line (termsOf (h .world .opening)) (freshFacts (h .fresh)) m s e
   stored-fresh m s e b = i .lines m s e b ∙ line-fresh (h .world .opening) (h .world .position .tables) (h .fresh) (i .agree) m s e
 
+  -- a line query answers the sums of the book's own tables, and so those of fresh settlement
+  query-own : (s e : ℕ) → InBook (h .world .opening) s e → lineQuery (h .world) s e ≡ ownLine (h .world) s e
+  query-own s e b = query-stored (h .world) (i .whole) s e b
+      ∙ ap₂ lineNamed (i .lines Measure.quantity s e b) (i .lines Measure.amount s e b)
+
   query-fresh : (s e : ℕ) → InBook (h .world .opening) s e
-      → lineQuery (h .world) s e
-      ≡ lineNamed (line (termsOf (h .world .opening)) (freshFacts (h .fresh)) Measure.quantity s e)
-      (line (termsOf (h .world .opening)) (freshFacts (h .fresh)) Measure.amount s e)
+      → lineQuery (h .world) s e ≡ lineGiven (h .world .opening) (freshFacts (h .fresh)) s e
   query-fresh s e b = query-stored (h .world) (i .whole) s e b
       ∙ ap₂ lineNamed (stored-fresh Measure.quantity s e b) (stored-fresh Measure.amount s e b)
 
@@ -303,10 +306,9 @@ module _ (w : World) (a : openingAnswer w ≡ 0) (vs : List Event) where
 
   pub kept : Kept w vs
   kept = record {
-    fresh = subst (λ o. (s e : ℕ) → InBook o s e → lineQuery (x .world) s e
-        ≡ lineNamed (line (termsOf o) (freshFacts (x .fresh)) Measure.quantity s e)
-        (line (termsOf o) (freshFacts (x .fresh)) Measure.amount s e))
+    fresh = subst (λ o. (s e : ℕ) → InBook o s e → lineQuery (x .world) s e ≡ lineGiven o (freshFacts (x .fresh)) s e)
         (i .opening) (query-fresh x (w .opening) i);
+    sums = λ s e b. query-own x (w .opening) i s e (subst (λ o. InBook o s e) (sym (i .opening)) b);
     local = λ v. subst (λ o. (s e : ℕ) → InBook o s e → (Holds o (x .fresh) s (v .fields .point) → ⊥)
         → (Holds o (advanceAll (begin (opened w)) (vs ++ (v ∷ [])) .fresh) s (v .fields .point) → ⊥)
         → lineQuery (advanceAll (begin (opened w)) (vs ++ (v ∷ [])) .world) s e ≡ lineQuery (x .world) s e)

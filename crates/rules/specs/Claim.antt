@@ -11,14 +11,14 @@ use Rattle.integers.specs.Sums.{sumTo}
 use Rattle.rules.specs.declared.Fields.{Fields}
 use Rattle.rules.specs.declared.Message.{Message}
 use Rattle.rules.specs.declared.Record.{Record}
-use Rattle.rules.specs.Lines.{Measure, owedByHolder, line}
+use Rattle.rules.specs.Lines.{Measure, owedByHolder}
 use Rattle.rules.specs.World.{Opening, World, monthFirst, monthDays, termsOf, amountOf, InBook}
 use Rattle.rules.specs.WellFormed.{rowsFit}
 use Rattle.rules.specs.Whole.{Whole}
 use Rattle.rules.specs.Messages.{understood}
 use Rattle.rules.specs.Effects.{tablesAfter, answer, step, recordsOf}
 use Rattle.rules.specs.Opening.{openingAnswer, opened}
-use Rattle.rules.specs.Queries.{lineQuery, lineNamed, named}
+use Rattle.rules.specs.Queries.{lineQuery, lineGiven, ownLine, named}
 use Rattle.rules.specs.Fresh.{Fresh, nothing, hear, freshFacts}
 
 -- a message as it came, and the list of records that was lent with it
@@ -74,11 +74,12 @@ reachedLimit Measure.amount = 80000000000000000000
 
 -- for one opening and one list of messages; "Lines there are the line query's answers"
 pub record Kept (w : World) (vs : List Event) : Type 0 where
-  -- "every line equals what an independent fresh settlement of the accepted messages gives"
+  -- "every line equals the line that fresh settlement in document 01 gives from the opening and the accepted messages alone"
   pub fresh : (s e : ℕ) → InBook (w .opening) s e
-      → lineQuery (reached w vs .world) s e
-      ≡ lineNamed (line (termsOf (w .opening)) (freshFacts (reached w vs .fresh)) Measure.quantity s e)
-      (line (termsOf (w .opening)) (freshFacts (reached w vs .fresh)) Measure.amount s e)
+      → lineQuery (reached w vs .world) s e ≡ lineGiven (w .opening) (freshFacts (reached w vs .fresh)) s e
+  -- demand 2, of the book's own tables: "every line equals the sum that those rules give from links, holders, connection states, prices and
+  -- readings"
+  pub sums : (s e : ℕ) → InBook (w .opening) s e → lineQuery (reached w vs .world) s e ≡ ownLine (reached w vs .world) s e
   -- "a message about one point moves only lines of suppliers who hold that point"
   pub local : (v : Event) (s e : ℕ) → InBook (w .opening) s e
       → (Holds (w .opening) (reached w vs .fresh) s (v .fields .point) → ⊥)

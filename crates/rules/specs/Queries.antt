@@ -8,8 +8,8 @@ use lib.ListN.{getD}
 use lib.Dec.{T, eqb, ltb}
 use Rattle.rules.specs.Basics.{within, anyTo}
 use Rattle.rules.specs.Rows.{pairRows}
-use Rattle.rules.specs.Lines.{Measure}
-use Rattle.rules.specs.World.{Opening, Tables, World, rowsOf, holderOn, stateOn, countingState, linkedOn}
+use Rattle.rules.specs.Lines.{Facts, Measure, line}
+use Rattle.rules.specs.World.{Opening, Tables, World, rowsOf, termsOf, factsOf, holderOn, stateOn, countingState, linkedOn}
 use Rattle.rules.specs.World.{lineAt, amountOf, kronerOf, billionthsOf}
 use Rattle.rules.specs.Questions.{question16}
 use Rattle.rules.specs.Effects.{ask, askBook}
@@ -46,6 +46,14 @@ lineQuery w s e =
 -- the answer that names a quantity and an amount
 unfoldable pub lineNamed : (quantity amount : ℤ) → LineResult
 lineNamed quantity amount = record { number = 0; quantity = quantity; kroner = kronerOf amount; billionths = billionthsOf amount }
+
+-- the answer that names both sums that the rules give from some facts
+abbrev pub lineGiven : Opening → Facts → (supplier element : ℕ) → LineResult
+lineGiven o f s e = lineNamed (line (termsOf o) f Measure.quantity s e) (line (termsOf o) f Measure.amount s e)
+
+-- "the sum that those rules give from links, holders, connection states, prices and readings", the book's own
+abbrev pub ownLine : World → (supplier element : ℕ) → LineResult
+ownLine w s e = lineGiven (w .opening) (factsOf (w .opening) (w .position .tables)) s e
 
 -- the number that an answer names, in one measure
 unfoldable pub named : Measure → LineResult → ℤ

@@ -80,6 +80,13 @@ module _ (w : World) (s e : ℕ) where
       let k : lineRefused (numberOf a) ≡ lineRefused (lineNumber w s e) = h .stored ∙ rw (sym (h .told)) in
       ap (λ (x : LineResult). x .number) k
 
+  -- and it names no line
+  names-none : (a : Answer) → LineAnswered w s e (LineAnswer.Refused a) → (quantity amount : ℤ)
+      → lineResult (LineAnswer.Refused a) ≡ lineNamed quantity amount → ⊥
+  unfolding lineNamed lineRefused
+  names-none a h quantity amount i =
+      not-zero _ (h .told) (sym (refused-number a h) ∙ ap (λ (x : LineResult). x .number) i)
+
   pub line-in-numbers : (r : LineAnswer) → LineAnswered w s e r → (n : ℕ) → n ≡ lineResult r .number → (lent out : List ℤ)
       → out ≡ lineAfter r lent
       → LineIn w s e n lent out
@@ -88,14 +95,15 @@ module _ (w : World) (s e : ℕ) where
       record {
         number = i ∙ sym (eqb-true _ _ (sym (h .told)));
         numbers = rw (← h .told, ← h .stored) j;
+        sums = λ w₀ vs x y z. j ∙ ap lineNumbers (h .sums w₀ vs x y z);
         settled = λ w₀ vs x y z. j ∙ ap lineNumbers (h .settled w₀ vs x y z);
       }
   line-in-numbers (LineAnswer.Refused a) h n i lent out j =
       record {
         number = i ∙ refused-number a h;
         numbers = rw (← h .told) j;
-        settled = λ w₀ vs x y z. absurd (not-zero _ (h .told)
-            (sym (refused-number a h) ∙ ap (λ (x : LineResult). x .number) (h .settled w₀ vs x y z)));
+        sums = λ w₀ vs x y z. absurd (names-none a h _ _ (h .sums w₀ vs x y z));
+        settled = λ w₀ vs x y z. absurd (names-none a h _ _ (h .settled w₀ vs x y z));
       }
 
   -- of a book that is not well formed

@@ -8,11 +8,10 @@ use lib.IntN.{ℤ}
 use lib.ListN.{length}
 use lib.Dec.{eqb}
 use Rattle.rules.specs.declared.Fields.{Fields}
-use Rattle.rules.specs.Lines.{Measure, line}
-use Rattle.rules.specs.World.{World, bookOf, termsOf, InBook}
+use Rattle.rules.specs.World.{World, bookOf, InBook}
 use Rattle.rules.specs.Opening.{openingAnswer, afterOpening}
 use Rattle.rules.specs.Effects.{answer, step, recordsOf}
-use Rattle.rules.specs.Queries.{lineNumber, lineQuery, lineNamed, periodsNumber, dayNumber, DayNamed, NoDayNamed}
+use Rattle.rules.specs.Queries.{lineNumber, lineQuery, lineGiven, ownLine, periodsNumber, dayNumber, DayNamed, NoDayNamed}
 use Rattle.rules.specs.Fresh.{freshFacts}
 use Rattle.rules.specs.Claim.{Event, reached}
 use Rattle.ledger.specs.RecordNumbers.{numbersAfter}
@@ -33,13 +32,15 @@ pub record RepliesIn (w after : World) (f : Fields) (r n₀ n : ℕ) (lent out :
   pub list : out ≡ numbersAfter (recordsOf w f (roomIn lent)) lent
   pub count : n ≡ cond (eqb (answer w f (roomIn lent)) 0) (length (recordsOf w f (roomIn lent))) n₀
 
--- the line query; for a book reached from an opening the line's numbers are the rules' sums
+-- the line query; for a book reached from an opening the line's numbers are the rules' sums of its own tables, which are those of fresh
+-- settlement
 pub record LineIn (w : World) (supplier element : ℕ) (r : ℕ) (lent out : List ℤ) : Type 0 where
   pub number : r ≡ lineNumber w supplier element
   pub numbers : out ≡ cond (eqb (lineNumber w supplier element) 0) (lineNumbers (lineQuery w supplier element)) lent
+  pub sums : (w₀ : World) (vs : List Event) → openingAnswer w₀ ≡ 0 → w ≡ reached w₀ vs .world → InBook (w₀ .opening) supplier element
+      → out ≡ lineNumbers (ownLine w supplier element)
   pub settled : (w₀ : World) (vs : List Event) → openingAnswer w₀ ≡ 0 → w ≡ reached w₀ vs .world → InBook (w₀ .opening) supplier element
-      → out ≡ lineNumbers (lineNamed (line (termsOf (w₀ .opening)) (freshFacts (reached w₀ vs .fresh)) Measure.quantity supplier element)
-      (line (termsOf (w₀ .opening)) (freshFacts (reached w₀ vs .fresh)) Measure.amount supplier element))
+      → out ≡ lineNumbers (lineGiven (w₀ .opening) (freshFacts (reached w₀ vs .fresh)) supplier element)
 
 -- the periods of a point and element: where they stand in the link table, and how many there are, p₀ and n₀ being both as they were lent
 pub record PeriodsIn (w : World) (point element : ℕ) (r p₀ p n₀ n : ℕ) : Type 0 where
