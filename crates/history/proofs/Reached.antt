@@ -1,7 +1,7 @@
 -- A run from an opened book is the run that demand 3 speaks of. By the function's promise and the proof of demand 3; the records are read
 -- back from the list number by number.
-use Prim.Native.Nat.{ℕ}
-use mathlib.Core.Path.{_≡_, sym, ap, ap₂, subst, _∙_}
+use Prim.Native.Nat.{ℕ, _-_}
+use mathlib.Core.Path.{_≡_, sym, ap, ap₂, _∙_}
 use mathlib.Core.List.{List, [], _∷_, _++_, append-assoc}
 use lib.IntN.{ℤ}
 use lib.ListN.{length, getD, drop}
@@ -9,51 +9,90 @@ use lib.Seq.{getD-at}
 use Rattle.rules.specs.declared.Fields.{Fields}
 use Rattle.rules.specs.Lines.{Measure}
 use Rattle.rules.specs.World.{World, InBook}
-use Rattle.rules.specs.Effects.{answer}
+use Rattle.rules.specs.Effects.{answer, step, recordsOf}
 use Rattle.rules.specs.Opening.{openingAnswer, opened}
 use Rattle.rules.specs.Queries.{lineQuery, named}
-use Rattle.rules.specs.Claim.{Event, advanceAll, begin, reached, total}
-use Rattle.rules.proofs.Demand3.{demand3}
+use Rattle.rules.specs.Claim.{Event, History, begin, Split, upTo, total, Holds}
+use Rattle.rules.proofs.Demand3.{demand3, advance-append, recordsFrom, records-behind}
+use Rattle.ledger.specs.RecordNumbers.{numbersAfter}
 use Rattle.ledger.proofs.RecordNumbers.{records-read}
 use Rattle.settlement.specs.Replies.{roomIn}
-use Rattle.history.specs.Runs.{lentWith, eventsFrom, answersTo, Followed}
-use Rattle.history.specs.FromOpening.{recordsIn, eventsOf, FromOpening}
-use Rattle.history.proofs.Turns.{placesLeft, events-more, answers-more, length-answers}
+use Rattle.history.specs.Runs.{lentWith, eventsFrom, runFrom, answersTo, Followed}
+use Rattle.history.specs.FromOpening.{recordsIn, eventsOf, reachedBy, FromOpening}
+use Rattle.history.proofs.Turns.{placesLeft, worldLeft, events-append, answers-append, events-more, length-answers, front-read}
 
--- ---- the last message
+-- ---- one message of the list
 
--- its answer stands behind those before it
-last-answer : (w : World) (fs : List Fields) (f : Fields) (room : ℕ) (rest : List ℕ)
-    → getD (answersTo w (eventsFrom w (fs ++ (f ∷ [])) room) ++ rest) (length fs) 0
-    ≡ answer (advanceAll (begin w) (eventsFrom w fs room) .world) (lentWith f (placesLeft w fs room) .fields)
-    (length (lentWith f (placesLeft w fs room) .lent))
-unfolding begin
-last-answer w fs f room rest =
-    rw (events-more w fs f room, answers-more (begin w) (eventsFrom w fs room) (lentWith f (placesLeft w fs room)), append-assoc)
-    (getD-at (answersTo w (eventsFrom w fs room)) _ rest 0 (length fs) (length-answers w fs room w))
+module _ (w : World) (room : ℕ) {fs : List Fields} (x : Split fs) where
+  abbrev event : Event
+  event = lentWith (x .message) (placesLeft w (x .before) room)
+
+  abbrev before-it : List Event
+  before-it = eventsFrom w (x .before) room
+
+  abbrev behind-it : List Event
+  behind-it = eventsFrom (step (worldLeft w (x .before) room) (x .message) (placesLeft w (x .before) room)) (x .behind)
+      (placesLeft w (x .before) room
+      - length (recordsOf (worldLeft w (x .before) room) (x .message) (placesLeft w (x .before) room)))
+
+  events-split : eventsFrom w fs room ≡ before-it ++ (event ∷ behind-it)
+  unfolding eventsFrom
+  events-split = ap (λ (gs : List Fields). eventsFrom w gs room) (x .is) ∙ events-append w (x .before) (x .message ∷ x .behind) room
+
+  -- the events are split where the messages are
+  abbrev splitEvents : Split (eventsFrom w fs room)
+  splitEvents = record { before = before-it; message = event; behind = behind-it; is = events-split }
+
+  -- its answer stands behind those before it
+  answer-at : (rest : List ℕ) → getD (answersTo w (eventsFrom w fs room) ++ rest) (length (x .before)) 0
+      ≡ answer (runFrom w (x .before) room .world) (event .fields) (length (event .lent))
+  unfolding begin answersTo
+  answer-at rest =
+      rw (events-split, answers-append (begin w) before-it (event ∷ behind-it), append-assoc)
+      (getD-at (answersTo w before-it) _ _ 0 (length (x .before)) (length-answers w (x .before) room w))
+
+  -- the records up to it stand before those of the messages behind it
+  records-front : runFrom w fs room .records ≡ runFrom w (upTo x) room .records ++ recordsFrom (runFrom w (upTo x) room) behind-it
+  records-front =
+      rw (events-split, events-more w (x .before) (x .message) room, ← append-assoc before-it (event ∷ []) behind-it)
+      (ap (λ (h : History). h .records) (advance-append (begin w) (before-it ++ (event ∷ [])) behind-it) ∙ records-behind _ behind-it)
 
 -- ---- demand 3 of the function's run
 
 module _ (w after : World) (fs : List Fields) (count : ℕ) (lent out : List ℤ) (table answered : List ℕ)
     (a : openingAnswer w ≡ 0) (g : Followed (opened w) after fs count lent out table answered) where
-  read-back : recordsIn count out ≡ reached w (eventsOf w fs lent) .records
-  read-back = ap₂ recordsIn (g .count-is) (g .list) ∙ records-read (reached w (eventsOf w fs lent) .records) lent
+  read-back : recordsIn count out ≡ reachedBy w fs lent .records
+  read-back = ap₂ recordsIn (g .count-is) (g .list) ∙ records-read (reachedBy w fs lent .records) lent
 
-  rounds-add : (gs : List Fields) (f : Fields) → fs ≡ gs ++ (f ∷ []) → f .kind ≡ 8 → getD answered (length gs) 0 ≡ 0
-      → (m : Measure) (s e : ℕ) → InBook (w .opening) s e → total m s e (recordsIn count out) ≡ named m (lineQuery after s e)
-  unfolding lentWith
-  rounds-add gs f q k z m s e b =
-      let v = lentWith f (placesLeft (opened w) gs (roomIn lent)) in
-      let p : eventsOf w fs lent ≡ eventsOf w gs lent ++ (v ∷ []) = ap (λ x. eventsOf w x lent) q
-      ∙ events-more (opened w) gs f (roomIn lent) in
-      let n : answer (reached w (eventsOf w gs lent) .world) (v .fields) (length (v .lent)) ≡ 0
-      = sym (last-answer (opened w) gs f (roomIn lent) (drop (length fs) table))
-      ∙ ap (λ x. getD (answersTo (opened w) (eventsOf w x lent) ++ drop (length fs) table) (length gs) 0) (sym q)
-      ∙ ap (λ x. getD x (length gs) 0) (sym (g .answers)) ∙ z in
-      let t = demand3 w a (eventsOf w gs lent) .rounds v k n m s e b in
-      ap (total m s e) read-back
-      ∙ subst (λ (vs : List Event). total m s e (reached w vs .records) ≡ named m (lineQuery (reached w vs .world) s e)) (sym p) t
-      ∙ ap (λ (x : World). named m (lineQuery x s e)) (sym (g .world))
+  module _ (x : Split fs) where
+    abbrev y : Split (eventsOf w fs lent)
+    y = splitEvents (opened w) (roomIn lent) x
+
+    to-here : upTo y ≡ eventsOf w (upTo x) lent
+    to-here = sym (events-more (opened w) (x .before) (x .message) (roomIn lent))
+
+    front-back : recordsIn (length (reachedBy w (upTo x) lent .records)) out ≡ reachedBy w (upTo x) lent .records
+    front-back = ap (recordsIn (length (reachedBy w (upTo x) lent .records)))
+        (g .list ∙ ap (λ rs. numbersAfter rs lent) (records-front (opened w) (roomIn lent) x))
+        ∙ front-read (reachedBy w (upTo x) lent .records) _ lent
+
+    local-at : (s e : ℕ) → InBook (w .opening) s e
+        → (Holds (w .opening) (reachedBy w (x .before) lent .fresh) s (x .message .point) → ⊥)
+        → (Holds (w .opening) (reachedBy w (upTo x) lent .fresh) s (x .message .point) → ⊥)
+        → lineQuery (reachedBy w (upTo x) lent .world) s e ≡ lineQuery (reachedBy w (x .before) lent .world) s e
+    unfolding lentWith
+    local-at s e b n r = rw to-here at (demand3 w a (eventsOf w fs lent) .local y s e b n (rw to-here r))
+
+    rounds-add : x .message .kind ≡ 8 → getD answered (length (x .before)) 0 ≡ 0
+        → (m : Measure) (s e : ℕ) → InBook (w .opening) s e
+        → total m s e (recordsIn (length (reachedBy w (upTo x) lent .records)) out)
+        ≡ named m (lineQuery (reachedBy w (upTo x) lent .world) s e)
+    unfolding lentWith
+    rounds-add k z m s e b =
+        let n : answer (reachedBy w (x .before) lent .world) (y .message .fields) (length (y .message .lent)) ≡ 0
+        = sym (answer-at (opened w) (roomIn lent) x (drop (length fs) table))
+        ∙ ap (λ l. getD l (length (x .before)) 0) (sym (g .answers)) ∙ z in
+        ap (total m s e) front-back ∙ rw to-here at (demand3 w a (eventsOf w fs lent) .rounds y k n m s e b)
 
   from-opened : FromOpening w after fs count lent out answered
   from-opened =
@@ -64,6 +103,7 @@ module _ (w after : World) (fs : List Fields) (count : ℕ) (lent out : List ℤ
         records = read-back;
         fresh = λ s e b. rw (g .world) (k .fresh s e b);
         sums = λ s e b. rw (g .world) (k .sums s e b);
+        local = local-at;
         rounds = rounds-add;
       }
 

@@ -19,8 +19,8 @@ use Rattle.rules.specs.Claim.{Event, History, advance, advanceAll, begin}
 use Rattle.rules.proofs.Passed.{records-fit}
 use Rattle.rules.proofs.Demand3.{advance-snoc}
 use Rattle.rules.proofs.Ranges.{length-listTo}
-use Rattle.ledger.specs.RecordNumbers.{noRecord, numbersOf, numbersAfter, recordNumbers}
-use Rattle.ledger.proofs.RecordNumbers.{length-numbers, length-after, numbers-none}
+use Rattle.ledger.specs.RecordNumbers.{noRecord, numbersOf, numbersAfter, recordNumbers, recordAt}
+use Rattle.ledger.proofs.RecordNumbers.{length-numbers, length-after, numbers-none, records-read}
 use Rattle.settlement.specs.declared.Reply.{Reply}
 use Rattle.settlement.specs.Replies.{roomIn, Replied}
 use Rattle.history.specs.Runs.{fieldsAt, messagesOf, lentWith, eventsFrom, runFrom, answersTo, Followed}
@@ -60,20 +60,37 @@ left-is h (f ∷ fs) room =
     ≡ length (advanceAll (advance h (lentWith f room)) (eventsFrom w fs (room - n)) .records) + placesLeft w fs (room - n))
     (advance-world h f room) e
 
+-- ---- more messages behind a list: events and answers go on, from the world that the list has left
+
+unfoldable pub worldLeft : World → List Fields → ℕ → World
+worldLeft w [] room = w
+worldLeft w (f ∷ fs) room = worldLeft (step w f room) fs (room - length (recordsOf w f room))
+
+pub events-append : (w : World) (fs gs : List Fields) (room : ℕ)
+    → eventsFrom w (fs ++ gs) room ≡ eventsFrom w fs room ++ eventsFrom (worldLeft w fs room) gs (placesLeft w fs room)
+unfolding eventsFrom placesLeft worldLeft
+events-append w [] gs room = refl
+events-append w (f ∷ fs) gs room = ap (λ (vs : List Event). lentWith f room ∷ vs) (events-append (step w f room) fs gs _)
+
+pub answers-append : (h : History) (us vs : List Event)
+    → answersTo (h .world) (us ++ vs) ≡ answersTo (h .world) us ++ answersTo (advanceAll h us .world) vs
+unfolding answersTo advanceAll advance
+answers-append h [] vs = refl
+answers-append h (u ∷ us) vs =
+    ap (λ (l : List ℕ). answer (h .world) (u .fields) (length (u .lent)) ∷ l) (answers-append (advance h u) us vs)
+
 -- ---- one event more
 
 pub events-more : (w : World) (fs : List Fields) (f : Fields) (room : ℕ)
     → eventsFrom w (fs ++ (f ∷ [])) room ≡ eventsFrom w fs room ++ (lentWith f (placesLeft w fs room) ∷ [])
-unfolding eventsFrom placesLeft
-events-more w [] f room = refl
-events-more w (g ∷ fs) f room = ap (λ (vs : List Event). lentWith g room ∷ vs) (events-more (step w g room) fs f _)
+unfolding eventsFrom
+events-more w fs f room = events-append w fs (f ∷ []) room
 
 pub answers-more : (h : History) (vs : List Event) (v : Event)
     → answersTo (h .world) (vs ++ (v ∷ [])) ≡ answersTo (h .world) vs ++
     (answer (advanceAll h vs .world) (v .fields) (length (v .lent)) ∷ [])
-unfolding answersTo advanceAll advance
-answers-more h [] v = refl
-answers-more h (u ∷ us) v = ap (λ (l : List ℕ). answer (h .world) (u .fields) (length (u .lent)) ∷ l) (answers-more (advance h u) us v)
+unfolding answersTo
+answers-more h vs v = answers-append h vs (v ∷ [])
 
 pub length-answers : (w : World) (fs : List Fields) (room : ℕ) (u : World) → length (answersTo u (eventsFrom w fs room)) ≡ length fs
 unfolding answersTo eventsFrom
@@ -102,6 +119,18 @@ module _ (rs ss : List Record) (lent : List ℤ) (n : ℕ) (e : n ≡ length rs)
   numbers-behind =
       let k : n * recordSize + length ss * recordSize ≡ length (rs ++ ss) * recordSize = rw (length-append rs ss) (omega arith) in
       rw (numbers-append rs ss, append-assoc (numbersOf rs) (numbersOf ss), drop-drop (length ss * recordSize) (n * recordSize) lent, k)
+
+-- records that stand at the front of a longer list are read there as they are
+front-same : (rs ss : List Record) (lent : List ℤ) → numbersAfter rs (numbersAfter (rs ++ ss) lent) ≡ numbersAfter (rs ++ ss) lent
+unfolding numbersAfter
+front-same rs ss lent = rw (
+  numbers-append rs ss,
+  append-assoc (numbersOf rs) (numbersOf ss),
+  drop-at (numbersOf rs) _ (length rs * recordSize) (length-numbers rs),
+)
+
+pub front-read : (rs ss : List Record) (lent : List ℤ) → listTo (recordAt (numbersAfter (rs ++ ss) lent)) (length rs) ≡ rs
+front-read rs ss lent = rw (front-same rs ss lent) at (records-read rs (numbersAfter (rs ++ ss) lent))
 
 -- ---- one store behind the answers
 

@@ -3,7 +3,7 @@
 use mathlib.Core.Path.{_≡_, refl, sym, ap, ap₂, _∙_, subst}
 use Prim.Native.Nat.{ℕ, suc, _+_, _≤_, _<_}
 use mathlib.Core.Bool.{Bool, true, false, _&&_}
-use mathlib.Core.List.{List, [], _∷_, _++_, append-nil}
+use mathlib.Core.List.{List, [], _∷_, _++_, append-nil, append-assoc}
 use mathlib.Core.Option.{Option, none, some}
 use lib.IntN.{natAbs}
 use lib.ListN.{length}
@@ -28,7 +28,7 @@ use Rattle.rules.specs.Effects.{linesAfter, posted, question17, answer, 
 use Rattle.rules.specs.Opening.{openingAnswer, opened}
 use Rattle.rules.specs.Queries.{lineQuery, lineNamed, lineGiven, ownLine, named}
 use Rattle.rules.specs.Fresh.{Fresh, heard, heardBody, hear, freshFacts}
-use Rattle.rules.specs.Claim.{Event, History, advance, advanceAll, begin, total, Holds, reachedLimit, Kept, Demand3}
+use Rattle.rules.specs.Claim.{Event, History, advance, advanceAll, begin, reached, total, Holds, reachedLimit, Kept, Demand3}
 use Rattle.rules.proofs.Tests.{cases, both}
 use Rattle.rules.proofs.Ranges.{all-at, latest-high}
 use Rattle.rules.proofs.ValuesRight.{recorded-high}
@@ -65,10 +65,24 @@ refused : (h : History) → after h none ≡ h
 unfolding after stepBy heardBody writtenBy
 refused h = rw (append-nil (h .records))
 
+pub advance-append : (h : History) (us vs : List Event) → advanceAll h (us ++ vs) ≡ advanceAll (advanceAll h us) vs
+unfolding advanceAll
+advance-append h [] vs = refl
+advance-append h (u ∷ us) vs = advance-append (advance h u) us vs
+
 pub advance-snoc : (h : History) (vs : List Event) (v : Event) → advanceAll h (vs ++ (v ∷ [])) ≡ advance (advanceAll h vs) v
 unfolding advanceAll
-advance-snoc h [] v = refl
-advance-snoc h (u ∷ us) v = advance-snoc (advance h u) us v
+advance-snoc h vs v = advance-append h vs (v ∷ [])
+
+-- records are written behind those that are there
+unfoldable pub recordsFrom : History → List Event → List Record
+recordsFrom h [] = []
+recordsFrom h (v ∷ vs) = recordsOf (h .world) (v .fields) (length (v .lent)) ++ recordsFrom (advance h v) vs
+
+pub records-behind : (h : History) (vs : List Event) → advanceAll h vs .records ≡ h .records ++ recordsFrom h vs
+unfolding advanceAll recordsFrom advance
+records-behind h [] = sym (append-nil (h .records))
+records-behind h (v ∷ vs) = records-behind (advance h v) vs ∙ append-assoc (h .records) _ _
 
 -- ---- what every history keeps
 
@@ -304,30 +318,51 @@ module _ (w : World) (a : openingAnswer w ≡ 0) (vs : List Event) where
   snoc : (v : Event) → advanceAll (begin (opened w)) (vs ++ (v ∷ [])) ≡ advance x v
   snoc v = advance-snoc (begin (opened w)) vs v
 
-  pub kept : Kept w vs
-  kept = record {
-    fresh = subst (λ o. (s e : ℕ) → InBook o s e → lineQuery (x .world) s e ≡ lineGiven o (freshFacts (x .fresh)) s e)
-        (i .opening) (query-fresh x (w .opening) i);
-    sums = λ s e b. query-own x (w .opening) i s e (subst (λ o. InBook o s e) (sym (i .opening)) b);
-    local = λ v. subst (λ o. (s e : ℕ) → InBook o s e → (Holds o (x .fresh) s (v .fields .point) → ⊥)
-        → (Holds o (advanceAll (begin (opened w)) (vs ++ (v ∷ [])) .fresh) s (v .fields .point) → ⊥)
-        → lineQuery (advanceAll (begin (opened w)) (vs ++ (v ∷ [])) .world) s e ≡ lineQuery (x .world) s e)
-        (i .opening) (λ s e b n r. rw (snoc v) (local-of x (w .opening) i v s e b n (rw (snoc v) at r)));
-    rounds = λ v k q. subst (λ o. (m : Measure) (s e : ℕ) → InBook o s e
-        → total m s e (advanceAll (begin (opened w)) (vs ++ (v ∷ [])) .records) ≡ named m
-        (lineQuery (advanceAll (begin (opened w)) (vs ++ (v ∷ [])) .world) s e))
-        (i .opening) (λ m s e b. rw (snoc v) (rounds-of x (w .opening) i v (round-accepted (x .world) v k q) m s e b));
-    totals = subst (λ (o : Opening). (m : Measure) (e : ℕ) → e < o .elements
-        → sumTo (λ s. named m (lineQuery (x .world) (suc s) e)) (o .suppliers)
-        ≡ sumTo (λ p. sumTo (λ d. owedByHolder (termsOf o) (freshFacts (x .fresh)) m p e (monthFirst o + d)) (monthDays o)) (o .points))
-        (i .opening) (totals-of x (w .opening) i);
-    whole = i .whole;
-    small = subst (λ o. (m : Measure) (s e : ℕ) → InBook o s e → natAbs (named m (lineQuery (x .world) s e)) ≤ reachedLimit m) (i .opening)
-        (small-of x (w .opening) i);
-    full = λ v. subst (λ (o : Opening). (b : Message) → understood (o .suppliers) (v .fields) ≡ some b
+  -- whatever message comes next
+  module _ (v : Event) where
+    local-next : (s e : ℕ) → InBook (w .opening) s e
+        → (Holds (w .opening) (x .fresh) s (v .fields .point) → ⊥)
+        → (Holds (w .opening) (reached w (vs ++ (v ∷ [])) .fresh) s (v .fields .point) → ⊥)
+        → lineQuery (reached w (vs ++ (v ∷ [])) .world) s e ≡ lineQuery (x .world) s e
+    local-next = subst (λ o. (s e : ℕ) → InBook o s e → (Holds o (x .fresh) s (v .fields .point) → ⊥)
+        → (Holds o (reached w (vs ++ (v ∷ [])) .fresh) s (v .fields .point) → ⊥)
+        → lineQuery (reached w (vs ++ (v ∷ [])) .world) s e ≡ lineQuery (x .world) s e)
+        (i .opening) (λ s e b n r. rw (snoc v) (local-of x (w .opening) i v s e b n (rw (snoc v) at r)))
+
+    rounds-next : v .fields .kind ≡ 8 → answer (x .world) (v .fields) (length (v .lent)) ≡ 0
+        → (m : Measure) (s e : ℕ) → InBook (w .opening) s e
+        → total m s e (reached w (vs ++ (v ∷ [])) .records) ≡ named m (lineQuery (reached w (vs ++ (v ∷ [])) .world) s e)
+    rounds-next k q = subst (λ o. (m : Measure) (s e : ℕ) → InBook o s e
+        → total m s e (reached w (vs ++ (v ∷ [])) .records) ≡ named m (lineQuery (reached w (vs ++ (v ∷ [])) .world) s e))
+        (i .opening) (λ m s e b. rw (snoc v) (rounds-of x (w .opening) i v (round-accepted (x .world) v k q) m s e b))
+
+    full-next : (b : Message) → understood (w .opening .suppliers) (v .fields) ≡ some b
+        → answer (x .world) (v .fields) (length (v .lent)) ≡ 17 → rowsFit (tablesAfter (x .world) (b .body)) ≡ false
+    full-next = subst (λ (o : Opening). (b : Message) → understood (o .suppliers) (v .fields) ≡ some b
         → answer (x .world) (v .fields) (length (v .lent)) ≡ 17 → rowsFit (tablesAfter (x .world) (b .body)) ≡ false)
-        (i .opening) (full-of x (w .opening) i v);
-  }
+        (i .opening) (full-of x (w .opening) i v)
+
+-- a message of the list is the next after those before it
+module _ (w : World) (a : openingAnswer w ≡ 0) (vs : List Event) where
+  pub kept : Kept w vs
+  kept =
+      let h = x w a vs in
+      let j = i w a vs in
+      record {
+        fresh = subst (λ o. (s e : ℕ) → InBook o s e → lineQuery (h .world) s e ≡ lineGiven o (freshFacts (h .fresh)) s e)
+            (j .opening) (query-fresh h (w .opening) j);
+        sums = λ s e b. query-own h (w .opening) j s e (subst (λ o. InBook o s e) (sym (j .opening)) b);
+        local = λ y. local-next w a (y .before) (y .message);
+        rounds = λ y. rounds-next w a (y .before) (y .message);
+        totals = subst (λ (o : Opening). (m : Measure) (e : ℕ) → e < o .elements
+            → sumTo (λ s. named m (lineQuery (h .world) (suc s) e)) (o .suppliers)
+            ≡ sumTo (λ p. sumTo (λ d. owedByHolder (termsOf o) (freshFacts (h .fresh)) m p e (monthFirst o + d)) (monthDays o)) (o .points))
+            (j .opening) (totals-of h (w .opening) j);
+        whole = j .whole;
+        small = subst (λ o. (m : Measure) (s e : ℕ) → InBook o s e → natAbs (named m (lineQuery (h .world) s e)) ≤ reachedLimit m)
+            (j .opening) (small-of h (w .opening) j);
+        full = λ y. full-next w a (y .before) (y .message);
+      }
 
 pub demand3 : Demand3
 demand3 w a vs = kept w a vs

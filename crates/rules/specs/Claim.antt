@@ -52,6 +52,17 @@ begin w = record { world = w; fresh = nothing; records = [] }
 abbrev pub reached : World → List Event → History
 reached w vs = advanceAll (begin (opened w)) vs
 
+-- a list of messages, split at one of them: those before it, it, and those behind it
+pub record Split {A : Type 0} (list : List A) : Type 0 where
+  pub before : List A
+  pub message : A
+  pub behind : List A
+  pub is : list ≡ before ++ (message ∷ behind)
+
+-- the messages up to that one, it among them
+abbrev pub upTo : {A : Type 0} {list : List A} → Split list → List A
+upTo x = x .before ++ (x .message ∷ [])
+
 -- what the records say of one supplier and element, in one measure
 unfoldable pub moves : Measure → Record → ℤ
 moves Measure.quantity r = r .quantity
@@ -80,16 +91,20 @@ pub record Kept (w : World) (vs : List Event) : Type 0 where
   -- demand 2, of the book's own tables: "every line equals the sum that those rules give from links, holders, connection states, prices and
   -- readings"
   pub sums : (s e : ℕ) → InBook (w .opening) s e → lineQuery (reached w vs .world) s e ≡ ownLine (reached w vs .world) s e
-  -- "a message about one point moves only lines of suppliers who hold that point"
-  pub local : (v : Event) (s e : ℕ) → InBook (w .opening) s e
-      → (Holds (w .opening) (reached w vs .fresh) s (v .fields .point) → ⊥)
-      → (Holds (w .opening) (reached w (vs ++ (v ∷ [])) .fresh) s (v .fields .point) → ⊥)
-      → lineQuery (reached w (vs ++ (v ∷ [])) .world) s e ≡ lineQuery (reached w vs .world) s e
-  -- "the records of the accepted rounds add up to the lines": where the next message is a round and accepted
-  pub rounds : (v : Event) → v .fields .kind ≡ 8 → answer (reached w vs .world) (v .fields) (length (v .lent)) ≡ 0
+  -- "each message about one point has changed only lines of suppliers who hold that point on some day of the month, before or after that
+  -- message"
+  pub local : (x : Split vs) (s e : ℕ) → InBook (w .opening) s e
+      → (Holds (w .opening) (reached w (x .before) .fresh) s (x .message .fields .point) → ⊥)
+      → (Holds (w .opening) (reached w (upTo x) .fresh) s (x .message .fields .point) → ⊥)
+      → lineQuery (reached w (upTo x) .world) s e ≡ lineQuery (reached w (x .before) .world) s e
+  -- "after each accepted round in the list, the records that its accepted rounds have written so far, each as document 01's round has it,
+  -- add up, for every supplier and element, to the line as it then stands"
+  pub rounds : (x : Split vs) → x .message .fields .kind ≡ 8
+      → answer (reached w (x .before) .world) (x .message .fields) (length (x .message .lent)) ≡ 0
       → (m : Measure) (s e : ℕ) → InBook (w .opening) s e
-      → total m s e (reached w (vs ++ (v ∷ [])) .records) ≡ named m (lineQuery (reached w (vs ++ (v ∷ [])) .world) s e)
-  -- "an element's lines add up to what is owed point by point"
+      → total m s e (reached w (upTo x) .records) ≡ named m (lineQuery (reached w (upTo x) .world) s e)
+  -- "an element's lines over all suppliers add up to what is owed for it point by point, by the same settlement, on the month's days with a
+  -- holder"
   pub totals : (m : Measure) (e : ℕ) → e < w .opening .elements
       → sumTo (λ s. named m (lineQuery (reached w vs .world) (suc s) e)) (w .opening .suppliers)
       ≡ sumTo (λ p. sumTo (λ i. owedByHolder (termsOf (w .opening)) (freshFacts (reached w vs .fresh)) m p e (monthFirst (w .opening) + i))
@@ -98,9 +113,9 @@ pub record Kept (w : World) (vs : List Event) : Type 0 where
   pub whole : Whole (reached w vs .world)
   -- "An opened book never leaves the bounds": lines stay far inside them, and 17 is said only where rows do not fit
   pub small : (m : Measure) (s e : ℕ) → InBook (w .opening) s e → natAbs (named m (lineQuery (reached w vs .world) s e)) ≤ reachedLimit m
-  pub full : (v : Event) (b : Message) → understood (w .opening .suppliers) (v .fields) ≡ some b
-      → answer (reached w vs .world) (v .fields) (length (v .lent)) ≡ 17
-      → rowsFit (tablesAfter (reached w vs .world) (b .body)) ≡ false
+  pub full : (x : Split vs) (b : Message) → understood (w .opening .suppliers) (x .message .fields) ≡ some b
+      → answer (reached w (x .before) .world) (x .message .fields) (length (x .message .lent)) ≡ 17
+      → rowsFit (tablesAfter (reached w (x .before) .world) (b .body)) ≡ false
 
 -- demand 3
 abbrev pub Demand3 : Type 0

@@ -65,7 +65,8 @@ named Measure.amount r = amountOf (r .kroner) (pos (r .billionths))
 unfoldable pub periodsNumber : World → (point element : ℕ) → ℕ
 periodsNumber w p e = askBook w (ask (ltb p (w .opening .points)) 7 (ask (ltb e (w .opening .elements)) 8 0))
 
--- "Everything recorded for one point and element is answered as that part of the link table; a refused query gives the empty part"
+-- "Everything recorded for one point and element is answered as that part of the link table, not as a copy; a refused query gives the empty
+-- part"
 unfoldable pub periodsQuery : World → (point element : ℕ) → List ℕ
 periodsQuery w p e = cond (eqb (periodsNumber w p e) 0) (pairRows p e (rowsOf (w .position .tables .links))) []
 

@@ -94,13 +94,14 @@ maySend from Round = isEnerginet from
 unfoldable pub question9 : Opening → Tables → Sender → Body → Bool
 question9 o t from b = asked (mayLink o t from) (placeOf b) && maySend from b
 
--- "at most 1,095 after the received day, and at most 90 (grid company) or 21 (supplier) before it. Energinet has no lower bound"
+-- "is the day at most 1,095 after the received day, and at most 90 (grid company) or 21 (supplier) before it? Energinet has no lower bound
+-- (E17)."
 unfoldable pub inTime : Sender → (received day : ℕ) → Bool
 inTime GridCompany received d = leb d (received + daysAhead) && leb received (d + gridDaysBack)
 inTime Energinet received d = leb d (received + daysAhead)
 inTime (Supplier s) received d = leb d (received + daysAhead) && leb received (d + supplierDaysBack)
 
--- 10: "Kinds 1 to 3: is the day .. (E17)?"
+-- 10: that, of "Kinds 1 to 3"
 unfoldable pub question10 : Sender → (received : ℕ) → Body → Bool
 question10 from received b = asked (λ (l : Place). inTime from received (l .day)) (placeOf b)
 
@@ -112,7 +113,7 @@ question11 t b = asked (λ (l : Place). not (eqb (stateOn t (l .point) (l .day))
 unfoldable pub question12 : Tables → Body → Bool
 question12 t b = asked (λ (l : Place). not (eqb (stateOn t (l .point) (l .day)) closed)) (placeOf b)
 
--- 13: "Link: is the element not linked that day (D14)?"
+-- 13: "Link: is the element not linked that day", D14 as document 01 widens it
 unfoldable pub question13 : Tables → (point element day : ℕ) → Bool
 question13 t p e d = not (linkedOn t p e d)
 

@@ -30,7 +30,7 @@ rowsFit t = leb (t .links .used) places && (leb (t .holders .used) places && leb
 unfoldable pub question2 : World → Bool
 question2 w = withinLimits (w .opening) && rowsFit (w .position .tables)
 
--- ---- 3: "Has each lent table its exact length?"
+-- ---- 3: "Has each lent table its exact length"
 
 -- the lengths of the readings and of the lines
 unfoldable pub readingCount : Opening → ℕ
@@ -65,8 +65,8 @@ priceLimit kind = cond (eqb kind tariff) mostTariffPrice mostPrice
 unfoldable pub priceSize : Opening → (element place : ℕ) → ℕ
 priceSize o e h = natAbs (getD (o .prices) (e * pricePlaces + h) (pos 0))
 
--- "A fee is never passed on. Only Energinet's tariffs are taxes; only tariffs are hourly." "An hourly tariff has 24 prices, any other
--- element one, its 23 further places being 0." "other bits are question 4"
+-- "A fee is never passed on (H3 3.2). Only Energinet's tariffs are taxes; only tariffs are hourly." "An hourly tariff has 24 prices, any
+-- other element one, its 23 further places being 0." "other bits are question 4"
 unfoldable pub elementRight : Opening → (element : ℕ) → Bool
 elementRight o e =
     within subscription tariff (kindOf o e) && (within gridCompany energinet (ownerOf o e) && (leb (marksOf o e) allMarks

@@ -100,7 +100,7 @@ gridCompany = 1
 abbrev pub energinet : ℕ
 energinet = 2
 
--- "marks (1 VAT, 2 pass-on, 4 tax, 8 hourly)"
+-- "marks (1 VAT, 2 pass-on, 4 tax, 8 hourly; other bits are question 4)"
 abbrev pub passOn : ℕ
 passOn = 2
 
