@@ -7,5 +7,6 @@ pub mod ElementLaws
 pub mod SignLaws
 pub mod EncodeLaws
 pub mod ProgramLaws
+pub mod PrintedLaws
 pub mod CasesHold
 pub mod Held

@@ -29,7 +29,7 @@ same-on-message (Element start size next) w number end f g h same = refl
 same-on-message More w number end f g h same = refl
 same-on-message Broken w number end f g h same = refl
 
-shorter : (bytes : List ℕ) (next m : ℕ) → length bytes < suc m → 0 < next → next ≤ length bytes → length (drop next bytes) < m
+pub shorter : (bytes : List ℕ) (next m : ℕ) → length bytes < suc m → 0 < next → next ≤ length bytes → length (drop next bytes) < m
 shorter bytes next m h a b = rw length-drop (omega arith)
 
 pub messages-enough : (m k : ℕ) (bytes : List ℕ) (w : World) (number : ℕ) → length bytes < m → length bytes < k

@@ -6,4 +6,6 @@ pub mod Decimal
 pub mod Lines
 pub mod Encode
 pub mod Program
+pub mod Contents
+pub mod Printed
 pub mod Cases
