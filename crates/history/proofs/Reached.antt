@@ -1,24 +1,31 @@
 -- A run from an opened book is the run that demand 3 speaks of. By the function's promise and the proof of demand 3; the records are read
 -- back from the list number by number.
 use Prim.Native.Nat.{ℕ, _-_}
-use mathlib.Core.Path.{_≡_, sym, ap, ap₂, _∙_}
+use mathlib.Core.Path.{_≡_, refl, sym, ap, ap₂, subst, _∙_}
+use mathlib.Core.Logic.{_≢_}
 use mathlib.Core.List.{List, [], _∷_, _++_, append-assoc}
 use lib.IntN.{ℤ}
 use lib.ListN.{length, getD, drop}
 use lib.Seq.{getD-at}
+use borrow.Author.Tests.{ne-eqb}
+use Rattle.rules.specs.declared.Book.{Book}
 use Rattle.rules.specs.declared.Fields.{Fields}
 use Rattle.rules.specs.Lines.{Measure}
 use Rattle.rules.specs.World.{World, InBook}
 use Rattle.rules.specs.Effects.{answer, step, recordsOf}
-use Rattle.rules.specs.Opening.{openingAnswer, opened}
+use Rattle.rules.specs.Opening.{openingAnswer, opened, afterOpening}
 use Rattle.rules.specs.Queries.{lineQuery, named}
 use Rattle.rules.specs.Claim.{Event, History, begin, Split, upTo, total, Holds}
 use Rattle.rules.proofs.Demand3.{demand3, advance-append, recordsFrom, records-behind}
 use Rattle.ledger.specs.RecordNumbers.{numbersAfter}
 use Rattle.ledger.proofs.RecordNumbers.{records-read}
+use Rattle.rules.specs.Lent.{Lists, worldIn}
+use Rattle.recording.specs.Opened.{freshBook}
 use Rattle.settlement.specs.Replies.{roomIn}
+use Rattle.settlement_book.specs.Numbers.{SizedBook, numbersIn, freshIn}
+use Rattle.settlement_book.specs.Promises.{OpensIn}
 use Rattle.history.specs.Runs.{lentWith, eventsFrom, runFrom, answersTo, Followed}
-use Rattle.history.specs.FromOpening.{recordsIn, eventsOf, reachedBy, FromOpening}
+use Rattle.history.specs.FromOpening.{recordsIn, eventsOf, reachedBy, FromOpening, OpensAndRuns}
 use Rattle.history.proofs.Turns.{placesLeft, worldLeft, events-append, answers-append, events-more, length-answers, front-read}
 
 -- ---- one message of the list
@@ -113,3 +120,36 @@ pub run-from-opening : (w start after : World) (fs : List Fields) (count : ℕ) 
     → openingAnswer w ≡ 0 → start ≡ opened w → Followed start after fs count lent out table answered
     → FromOpening w after fs count lent out answered
 run-from-opening w start after fs count lent out table answered a e g = from-opened w after fs count lent out table answered a (rw e at g)
+
+-- For a function that opens the world w and runs the list from what that leaves.
+module _ (w mid : World) (a : ℕ) (n : a ≡ openingAnswer w) (k : mid ≡ afterOpening w) (fs : List Fields) where
+  pub opening-refused : a ≢ 0 → (lent : List ℤ) (table : List ℕ) → OpensAndRuns w mid fs a 0 lent lent table table
+  unfolding afterOpening
+  opening-refused z lent table = record {
+    number = n;
+    followed = λ e. absurd (z e);
+    kept = λ e. absurd (z e);
+    refused = λ _. (k ∙ rw (ne-eqb (openingAnswer w) 0 (λ e. z (n ∙ e))), refl, refl, refl);
+  }
+
+  pub opened-and-run : a ≡ 0 → (after : World) (count : ℕ) (lent out : List ℤ) (table answered : List ℕ)
+      → Followed mid after fs count lent out table answered
+      → OpensAndRuns w after fs a count lent out table answered
+  opened-and-run z after count lent out table answered g =
+      let s : mid ≡ opened w = k ∙ unfold afterOpening in rw (sym n ∙ z) in
+      record {
+        number = n;
+        followed = λ _. rw s at g;
+        kept = λ _. run-from-opening w mid after fs count lent out table answered (sym n ∙ z) s g;
+        refused = λ x. absurd (x z);
+      }
+
+-- the opening of a fresh book's numbers
+pub fresh-opened : (year month points suppliers elements : ℕ) (fresh : Book) (numbers out : List ℕ) (o after : Lists) (a : ℕ)
+    → fresh ≡ freshBook year month points suppliers elements → numbers ≡ numbersIn fresh
+    → (SizedBook numbers → OpensIn (worldIn (freshIn numbers) o) (worldIn (freshIn numbers) after) numbers out a)
+    → OpensIn (worldIn (freshBook year month points suppliers elements) o) (worldIn fresh after) numbers out a
+fresh-opened year month points suppliers elements fresh numbers out o after a f p h =
+    let q = h (ap length p) in
+    subst (λ (b : Book). OpensIn (worldIn (freshBook year month points suppliers elements) o) (worldIn b after) numbers out a) (sym f)
+    (subst (λ (ns : List ℕ). OpensIn (worldIn (freshIn ns) o) (worldIn (freshIn ns) after) numbers out a) (p ∙ ap numbersIn f) q)

@@ -1,6 +1,7 @@
 -- What a run from an opened book leaves: demand 3, of the book and the list of records as the function returns them.
 use Prim.Native.Nat.{ℕ}
 use mathlib.Core.Path.{_≡_}
+use mathlib.Core.Logic.{_≢_}
 use mathlib.Core.List.{List}
 use lib.IntN.{ℤ}
 use lib.ListN.{length, getD}
@@ -8,14 +9,14 @@ use Rattle.rules.specs.declared.Fields.{Fields}
 use Rattle.rules.specs.declared.Record.{Record}
 use Rattle.rules.specs.Lines.{Measure}
 use Rattle.rules.specs.World.{World, InBook}
-use Rattle.rules.specs.Opening.{opened}
+use Rattle.rules.specs.Opening.{openingAnswer, opened}
 use Rattle.rules.specs.Queries.{lineQuery, lineGiven, ownLine, named}
 use Rattle.rules.specs.Fresh.{freshFacts}
 use Rattle.rules.specs.Claim.{Event, History, reached, Split, upTo, total, Holds, Kept}
 use Rattle.rules.specs.Basics.{listTo}
 use Rattle.ledger.specs.RecordNumbers.{recordAt}
 use Rattle.settlement.specs.Replies.{roomIn}
-use Rattle.history.specs.Runs.{eventsFrom}
+use Rattle.history.specs.Runs.{eventsFrom, Followed}
 
 -- the first n records of a list of numbers
 abbrev pub recordsIn : (count : ℕ) → (numbers : List ℤ) → List Record
@@ -49,3 +50,11 @@ pub record FromOpening (w after : World) (fs : List Fields) (count : ℕ) (lent 
       → (m : Measure) (s e : ℕ) → InBook (w .opening) s e
       → total m s e (recordsIn (length (reachedBy w (upTo x) lent .records)) out)
       ≡ named m (lineQuery (reachedBy w (upTo x) lent .world) s e)
+
+-- what a function promises that opens a month in the world w, a fresh book's, and then runs the list: the rules' run and demand 3 where
+-- the opening is accepted, and everything as it was where it is refused
+pub record OpensAndRuns (w after : World) (fs : List Fields) (answer count : ℕ) (lent out : List ℤ) (table answered : List ℕ) : Type 0 where
+  pub number : answer ≡ openingAnswer w
+  pub followed : answer ≡ 0 → Followed (opened w) after fs count lent out table answered
+  pub kept : answer ≡ 0 → FromOpening w after fs count lent out answered
+  pub refused : answer ≢ 0 → (after ≡ w) × (count ≡ 0) × (out ≡ lent) × (answered ≡ table)
