@@ -1,4 +1,3 @@
--- The lemma of the table, and the days by arithmetic.
+-- The lemma of the table, and laws of months.
 pub mod Entries
-pub mod Arithmetic
 pub mod MonthLaws

@@ -1,8 +1,8 @@
 // The months of the years 2000 to 2099 as days: day 0 is 1 January 2000, and day 36,524 is 31 December 2099.
 ghost use mathlib.Core.Path.{_≡_};
-ghost use Prim.Native.Nat.{_≤_, _<_};
-ghost use Rattle.calendar.specs.Gregorian.{firstYear, lastYear, listedMonths, monthNumber, InRange};
-ghost use Rattle.calendar.specs.Gregorian.{isLeap, hasThirty, daysOfMonth, firstOf, firstDay};
+ghost use Prim.Native.Nat.{_<_};
+ghost use Rattle.calendar.specs.Gregorian.{listedMonths, monthNumber, InRange};
+ghost use Rattle.calendar.specs.Gregorian.{daysOfMonth, firstOf, firstDay};
 
 // The years that are spoken of, and the months of a year.
 pub const FIRST_YEAR: u64 = 2000;
@@ -1235,62 +1235,20 @@ fn month_number(year: u64, month: u64) -> usize
     ((year - FIRST_YEAR) * YEAR_MONTHS + (month - 1)) as usize
 }
 
-// The first day of a month, 1 to 12, of a year, as the table has it. Linear in the table, which is laid out at each use.
-pub fn listed_first_day(year: u64, month: u64) -> u64
+// The first day of a month, 1 to 12, of a year. Linear in the table, which is laid out at each use.
+pub fn first_day(year: u64, month: u64) -> u64
     requires { ⌜ InRange year month ⌝ }
     ensures { λ r. ⌜ r ≡ firstDay year month ⌝ }
 {
     first_of(month_number(year, month))
 }
 
-// ---- the same by arithmetic, for each message
-
-// Each fourth year from 2000 to 2099 is a leap year.
-fn is_leap(year: u64) -> bool
-    requires { ⌜ (firstYear ≤ year) × (year ≤ lastYear) ⌝ }
-    ensures { λ r. ⌜ r ≡ isLeap year ⌝ }
-{
-    year % 4 == 0
-}
-
-// April, June, September and November.
-fn has_thirty(month: u64) -> bool
-    ensures { λ r. ⌜ r ≡ hasThirty month ⌝ }
-{
-    if month < 8 {
-        if month == 4 { true } else { month == 6 }
-    } else {
-        if month == 9 { true } else { month == 11 }
-    }
-}
-
-// The first day of a month, 1 to 12, of a year. Constant time.
-pub fn first_day(year: u64, month: u64) -> u64
-    requires { ⌜ InRange year month ⌝ }
-    ensures { λ r. ⌜ r ≡ firstDay year month ⌝ }
-{
-    let years = year - FIRST_YEAR;
-    let months = month - 1;
-    let days = years * 365 + (years + 3) / 4 + (months * 367 + 5) / 12;
-    if months < 2 {
-        days
-    } else if is_leap(year) {
-        days - 1
-    } else {
-        days - 2
-    }
-}
-
-// The number of days of a month, 1 to 12, of a year. Constant time.
+// The number of days of a month, 1 to 12, of a year: up to the first day of the next. Linear in the table, as above.
 pub fn days_in_month(year: u64, month: u64) -> u64
     requires { ⌜ InRange year month ⌝ }
     ensures { λ r. ⌜ r ≡ daysOfMonth year month ⌝ }
 {
-    if month == 2 {
-        if is_leap(year) { 29 } else { 28 }
-    } else if has_thirty(month) {
-        30
-    } else {
-        31
-    }
+    let number = month_number(year, month);
+    let first = first_of(number);
+    first_of(number + 1) - first
 }

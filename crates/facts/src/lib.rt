@@ -4,13 +4,13 @@ ghost use mathlib.Core.Path.{_≡_};
 ghost use Prim.Native.Nat.{_<_};
 ghost use Rattle.rules.specs.Sizes.{mostPoints, endOfDays, holderSize, stateSize};
 ghost use Rattle.rules.specs.World.{countingState, holderOn, stateOn, readingAt};
+ghost use Rattle.calendar.specs.Gregorian.{daysOfMonth, firstDay};
+ghost use Rattle.rules.specs.Whole.{Dated};
 ghost use Rattle.rules.specs.Lent.{Lists, openingIn, tablesIn, lendData, lendLinks, lendHolders, lendStates, was};
 ghost use Rattle.tables.specs.Order.{LinkRows, ValueRows};
 ghost use Rattle.facts.specs.Links.{linkEnds, LinkFits};
 ghost use Rattle.facts.specs.Payers.{payerOf, payerOn};
 ghost use Rattle.facts.specs.Readings.{HourOfMonth};
-use calendar::days_in_month;
-use calendar::first_day;
 use pricing::kind_of;
 use rules::Body;
 use rules::Book;
@@ -93,13 +93,33 @@ pub fn link_ends(book: Book, element_data: &[u8], links: &[u64], body: Body) -> 
     }
 }
 
+// ---- the month
+
+// The first day of a book's month. Constant time, as is the next.
+pub fn month_first(book: Book) -> u64
+    requires { ⌜ Dated book ⌝ }
+    ensures { λ r. ⌜ r ≡ firstDay (book .year) (book .month) ⌝ }
+{
+    book.first
+}
+
+// How many days a book's month has.
+pub fn month_days(book: Book) -> u64
+    requires { ⌜ Dated book ⌝ }
+    ensures { λ r. ⌜ r ≡ daysOfMonth (book .year) (book .month) ⌝ }
+{
+    book.days
+}
+
+// ---- readings
+
 // Where the reading of an hour stands. Constant time.
 pub fn reading_place(book: Book, point: u64, day: u64, hour: u64) -> usize
     requires { ⌜ HourOfMonth book point day hour ⌝ }
     ensures { λ r. ⌜ ((o : Lists) → r ≡ readingAt (openingIn book o) point day hour) ⌝ }
 {
-    let first = first_day(book.year, book.month);
-    let days = days_in_month(book.year, book.month);
+    let first = month_first(book);
+    let days = month_days(book);
     let day_place = (point * days + (day - first)) as usize;
     day_place * HOUR_PLACES + hour as usize
 }

@@ -8,7 +8,7 @@ use lib.Dec.{leb, eqb}
 use Rattle.rules.specs.Sizes.{elementSize, mostLines}
 use Rattle.rules.specs.declared.Fields.{Fields}
 use Rattle.rules.specs.declared.Record.{Record}
-use Rattle.rules.specs.World.{Opening, World, tableOf, monthFirst, monthDays}
+use Rattle.rules.specs.World.{Opening, World, tableOf, monthFirst, monthDays, monthDates}
 use Rattle.rules.specs.WellFormed.{readingCount, linePlaces}
 use Rattle.rules.specs.Opening.{openingAnswer, opened}
 use Rattle.rules.specs.Effects.{ask, answer, step, recordsOf}
@@ -109,6 +109,7 @@ lentFor o =
         lines = replicate (linePlaces o) (pos 0);
       };
       sent = record { totals = replicate (linePlaces o) (pos 0); round = 1 };
+      dates = monthDates o;
     }
 
 -- "no tag 2 question 2", since an opening without elements is

@@ -13,6 +13,7 @@ use Rattle.rules.specs.declared.Fields.{Fields}
 use Rattle.rules.specs.Lines.{Measure}
 use Rattle.rules.specs.World.{World, InBook}
 use Rattle.rules.specs.Effects.{answer, step, recordsOf}
+use Rattle.rules.specs.WellFormed.{question2, question3, question4}
 use Rattle.rules.specs.Opening.{openingAnswer, opened, afterOpening}
 use Rattle.rules.specs.Queries.{lineQuery, named}
 use Rattle.rules.specs.Claim.{Event, History, begin, Split, upTo, total, Holds}
@@ -20,9 +21,9 @@ use Rattle.rules.proofs.Demand3.{demand3, advance-append, recordsFrom, records-
 use Rattle.ledger.specs.RecordNumbers.{numbersAfter}
 use Rattle.ledger.proofs.RecordNumbers.{records-read}
 use Rattle.rules.specs.Lent.{Lists, worldIn}
-use Rattle.recording.specs.Opened.{freshBook}
+use Rattle.recording.specs.Opened.{namedBook, freshBook}
 use Rattle.settlement.specs.Replies.{roomIn}
-use Rattle.settlement_book.specs.Numbers.{SizedBook, numbersIn, freshIn}
+use Rattle.settlement_book.specs.Numbers.{SizedBook, bookIn, numbersIn, freshIn}
 use Rattle.settlement_book.specs.Promises.{OpensIn}
 use Rattle.history.specs.Runs.{lentWith, eventsFrom, runFrom, answersTo, Followed}
 use Rattle.history.specs.FromOpening.{recordsIn, eventsOf, reachedBy, FromOpening, OpensAndRuns}
@@ -122,21 +123,19 @@ pub run-from-opening : (w start after : World) (fs : List Fields) (count : ℕ) 
 run-from-opening w start after fs count lent out table answered a e g = from-opened w after fs count lent out table answered a (rw e at g)
 
 -- For a function that opens the world w and runs the list from what that leaves.
-module _ (w mid : World) (a : ℕ) (n : a ≡ openingAnswer w) (k : mid ≡ afterOpening w) (fs : List Fields) where
-  pub opening-refused : a ≢ 0 → (lent : List ℤ) (table : List ℕ) → OpensAndRuns w mid fs a 0 lent lent table table
-  unfolding afterOpening
-  opening-refused z lent table = record {
+module _ (w : World) (a : ℕ) (n : a ≡ openingAnswer w) (fs : List Fields) where
+  pub opening-refused : a ≢ 0 → (after : World) → after ≡ w → (lent : List ℤ) (table : List ℕ)
+      → OpensAndRuns w after fs a 0 lent lent table table
+  opening-refused z after k lent table = record {
     number = n;
     followed = λ e. absurd (z e);
     kept = λ e. absurd (z e);
-    refused = λ _. (k ∙ rw (ne-eqb (openingAnswer w) 0 (λ e. z (n ∙ e))), refl, refl, refl);
+    refused = λ _. (k, refl, refl, refl);
   }
 
-  pub opened-and-run : a ≡ 0 → (after : World) (count : ℕ) (lent out : List ℤ) (table answered : List ℕ)
-      → Followed mid after fs count lent out table answered
-      → OpensAndRuns w after fs a count lent out table answered
-  opened-and-run z after count lent out table answered g =
-      let s : mid ≡ opened w = k ∙ unfold afterOpening in rw (sym n ∙ z) in
+  pub opened-and-run : a ≡ 0 → (mid after : World) (count : ℕ) (lent out : List ℤ) (table answered : List ℕ)
+      → mid ≡ opened w → Followed mid after fs count lent out table answered → OpensAndRuns w after fs a count lent out table answered
+  opened-and-run z mid after count lent out table answered s g =
       record {
         number = n;
         followed = λ _. rw s at g;
@@ -144,12 +143,38 @@ module _ (w mid : World) (a : ℕ) (n : a ≡ openingAnswer w) (k : mid ≡ afte
         refused = λ x. absurd (x z);
       }
 
--- the opening of a fresh book's numbers
-pub fresh-opened : (year month points suppliers elements : ℕ) (fresh : Book) (numbers out : List ℕ) (o after : Lists) (a : ℕ)
-    → fresh ≡ freshBook year month points suppliers elements → numbers ≡ numbersIn fresh
-    → (SizedBook numbers → OpensIn (worldIn (freshIn numbers) o) (worldIn (freshIn numbers) after) numbers out a)
-    → OpensIn (worldIn (freshBook year month points suppliers elements) o) (worldIn fresh after) numbers out a
-fresh-opened year month points suppliers elements fresh numbers out o after a f p h =
-    let q = h (ap length p) in
-    subst (λ (b : Book). OpensIn (worldIn (freshBook year month points suppliers elements) o) (worldIn b after) numbers out a) (sym f)
-    (subst (λ (ns : List ℕ). OpensIn (worldIn (freshIn ns) o) (worldIn (freshIn ns) after) numbers out a) (p ∙ ap numbersIn f) q)
+-- ---- the opening of a named book's numbers
+
+module _ (year month points suppliers elements : ℕ) (named : Book) (numbers out : List ℕ) (o after : Lists) (a : ℕ)
+    (f : named ≡ namedBook year month points suppliers elements) (p : numbers ≡ numbersIn named)
+    (h : SizedBook numbers → OpensIn (worldIn (freshIn numbers) o) (worldIn (freshIn numbers) after) numbers out a) where
+  abbrev fresh : Book
+  fresh = freshBook year month points suppliers elements
+
+  abbrev begins : World
+  begins = worldIn (namedBook year month points suppliers elements) o
+
+  opens : OpensIn (worldIn fresh o) (worldIn fresh after) numbers out a
+  opens = subst (λ (ns : List ℕ). OpensIn (worldIn (freshIn ns) o) (worldIn (freshIn ns) after) numbers out a) (p ∙ ap numbersIn f)
+      (h (ap length p))
+
+  pub named-number : a ≡ openingAnswer begins
+  unfolding openingAnswer question2 question3 question4
+  named-number = opens .number
+
+  -- a refused one leaves everything as it was
+  pub named-refused : a ≢ 0 → worldIn named after ≡ begins
+  unfolding afterOpening
+  named-refused z =
+      let same : worldIn fresh after ≡ worldIn fresh o = opens .world ∙ rw (ne-eqb (openingAnswer (worldIn fresh o)) 0 (λ e. z (opens .number ∙ e))) in
+      rw f (ap (λ (w : World). record { opening = w .opening; position = w .position; sent = w .sent; dates = begins .dates }) same)
+
+  -- and an accepted one the opened book, whose numbers are put
+  pub named-opened : a ≡ 0 → (b : Book) → b ≡ bookIn out → worldIn b after ≡ opened begins
+  unfolding afterOpening opened
+  named-opened z b e =
+      let k : openingAnswer (worldIn fresh o) ≡ 0 = sym (opens .number) ∙ z in
+      let put : out ≡ numbersIn fresh = opens .book ∙ rw k in
+      let same-book : b ≡ fresh = e ∙ ap bookIn put in
+      let same : worldIn fresh after ≡ opened (worldIn fresh o) = opens .world ∙ rw k in
+      ap (λ (x : Book). worldIn x after) same-book ∙ same

@@ -4,16 +4,17 @@ ghost use lib.ListN.{length};
 ghost use Prim.Native.Nat.{_/_, _<_, min};
 ghost use Rattle.rules.specs.Lent.{worldIn, lent, left, was};
 ghost use Rattle.settlement_book.specs.Numbers.{fieldsSize};
-ghost use Rattle.recording.specs.Opened.{freshBook};
+ghost use Rattle.recording.specs.Opened.{namedBook};
 ghost use Rattle.history.specs.Runs.{fieldsAt, messagesOf, Followed};
 ghost use Rattle.history.specs.FromOpening.{OpensAndRuns};
-use recording::opening::fresh_book;
+use recording::opening::named_book;
 use rules::Book;
 use rules::Fields;
 use rules::RECORD_SIZE;
 use settlement_book::message;
 use settlement_book::numbers::BOOK_SIZE;
 use settlement_book::numbers::FIELDS_SIZE;
+use settlement_book::numbers::book_of;
 use settlement_book::numbers::fields_of;
 use settlement_book::numbers::put_book;
 use settlement_book::settlement_book_open;
@@ -135,13 +136,13 @@ pub fn open_and_run(
     answers: &mut [u64],
 ) -> Settled
     ensures { λ r. ⌜ (let t = lent element_data prices links holders states readings blocks lines sent in
-        OpensAndRuns (worldIn (freshBook year month points suppliers elements) (t .entry)) (worldIn (r .book) (t .exit))
+        OpensAndRuns (worldIn (namedBook year month points suppliers elements) (t .entry)) (worldIn (r .book) (t .exit))
         (messagesOf (was inputs) (min (length (was inputs) / fieldsSize) (length (was answers))))
         (r .answer) (r .records) (was records) (left records) (was answers) (left answers)) ⌝ }
 {
-    let fresh = fresh_book(year, month, points, suppliers, elements);
+    let named = named_book(year, month, points, suppliers, elements);
     let mut numbers = [0u64; BOOK_SIZE];
-    put_book(&mut numbers, fresh);
+    put_book(&mut numbers, named);
     let answer = settlement_book_open(
         &mut numbers,
         element_data,
@@ -155,10 +156,10 @@ pub fn open_and_run(
         sent,
     );
     if answer != 0 {
-        return settled_as(answer, fresh, 0);
+        return settled_as(answer, named, 0);
     }
     let ran = run(
-        fresh,
+        book_of(&numbers),
         element_data,
         prices,
         links,

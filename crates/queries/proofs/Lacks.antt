@@ -18,7 +18,7 @@ use Rattle.rules.specs.Questions.{question16}
 use Rattle.rules.specs.Queries.{dayNumber, lacksHolder}
 use Rattle.rules.proofs.Tests.{tests, cases}
 use Rattle.rules.specs.Lent.{Lists, worldIn, openingIn, tablesIn, lendRows}
-use Rattle.rules.proofs.Parts.{lengths}
+use Rattle.rules.proofs.Parts.{lengths, dated}
 use Rattle.tables.proofs.Right.{whole-rows}
 use Rattle.queries.specs.Days.{PointAsked}
 use Rattle.queries.proofs.Asks.{day-passed}
@@ -121,7 +121,7 @@ point-asked b o p h =
     let n = lengths (worldIn b o) (k .0) .limited in
     let r = whole-rows b o (k .0) in
     record {
-      month = n .month;
+      month = dated b o (k .0);
       points = n .points;
       elements = n .elements;
       point = k .1;

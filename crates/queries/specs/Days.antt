@@ -1,14 +1,15 @@
 -- What the search for a day without a holder needs: rows in order, a point of the book, and days of the month.
 use Prim.Native.Nat.{ℕ, _+_, _≤_, _<_}
 use mathlib.Core.List.{List}
-use Rattle.calendar.specs.Gregorian.{firstDay, daysOfMonth, InRange}
+use Rattle.calendar.specs.Gregorian.{firstDay, daysOfMonth}
+use Rattle.rules.specs.Whole.{Dated}
 use Rattle.rules.specs.declared.Book.{Book}
 use Rattle.rules.specs.Sizes.{endOfDays, holderSize, mostElements, mostPoints, stateSize}
 use Rattle.tables.specs.Order.{LinkRows, ValueRows}
 
 -- a book whose rows are in order, and one of its points
 pub record PointAsked (b : Book) (linkWords holderWords stateWords : List ℕ) (p : ℕ) : Type 0 where
-  pub month : InRange (b .year) (b .month)
+  pub month : Dated b
   pub points : b .points ≤ mostPoints
   pub elements : b .elements ≤ mostElements
   pub point : p < b .points

@@ -16,10 +16,10 @@ ghost use Rattle.rules.specs.Lent.{Lists, worldIn, openingIn, tablesIn, lendLin
 ghost use Rattle.tables.specs.Order.{LinkRows};
 ghost use Rattle.queries.specs.Promises.{LineAnswered, PeriodsAt, DayTold};
 ghost use Rattle.queries.specs.Days.{PointAsked, InMonth};
-use calendar::days_in_month;
-use calendar::first_day;
 use facts::holder_on;
 use facts::is_counting;
+use facts::month_days;
+use facts::month_first;
 use facts::state_on;
 use ledger::lines::line_at;
 use pricing::is_within;
@@ -158,8 +158,8 @@ fn find_day(book: Book, links: &[u64], holders: &[u64], states: &[u64], point: u
         let w = worldIn book (lendRows (was links) (was holders) (was states) o) in
         Whole w → DayTold w point r) ⌝ }
 {
-    let end = first_day(book.year, book.month) + days_in_month(book.year, book.month);
-    let mut day = first_day(book.year, book.month);
+    let end = month_first(book) + month_days(book);
+    let mut day = month_first(book);
     while day < end {
         if lacks_holder(book, links, holders, states, point, day) {
             return DayAnswer::Day(day);

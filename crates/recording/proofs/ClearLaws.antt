@@ -4,7 +4,7 @@ use mathlib.Core.Path.{_≡_}
 use mathlib.Core.List.{List}
 use lib.IntN.{ℤ, pos}
 use lib.ListN.{length, replicate}
-use Rattle.rules.specs.World.{tableOf, lineCount}
+use Rattle.rules.specs.World.{tableOf, monthFirst, monthDays, lineCount}
 use Rattle.rules.specs.WellFormed.{linePlaces}
 use Rattle.rules.specs.Opening.{openingAnswer, opened}
 use Rattle.rules.specs.Lent.{Lists, worldIn, lendTables}
@@ -26,7 +26,7 @@ pub opened-cleared : (year month points suppliers elements : ℕ) (o : Lists)
     → openingAnswer (worldIn (freshBook year month points suppliers elements) o) ≡ 0
     → worldIn (freshBook year month points suppliers elements) (cleared o) ≡ opened
     (worldIn (freshBook year month points suppliers elements) o)
-unfolding opened tableOf linePlaces lineCount
+unfolding monthFirst monthDays opened tableOf linePlaces lineCount
 opened-cleared year month points suppliers elements o h =
     let w = worldIn (freshBook year month points suppliers elements) o in
     let p = passed w h in

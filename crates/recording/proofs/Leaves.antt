@@ -55,19 +55,19 @@ module _ (b : Book) (o : Lists) where
         → RecordedAs b o body r (lendLinks words o)
     unfolding withLinks with-links
     links-recorded e h = subst (λ x. RecordedAs b o body x (lendLinks words o)) (sym h)
-        (record { tables = ap with-links (changed-table c) ∙ sym e; opening = refl; round = refl })
+        (record { tables = ap with-links (changed-table c) ∙ sym e; opening = refl; round = refl; first = refl; days = refl })
 
     holders-recorded : told (openingIn b o) (tablesIn b o) body ≡ withHolders (tablesIn b o) rows → r ≡ usingHolders b n
         → RecordedAs b o body r (lendHolders words o)
     unfolding withHolders with-holders
     holders-recorded e h = subst (λ x. RecordedAs b o body x (lendHolders words o)) (sym h)
-        (record { tables = ap with-holders (changed-table c) ∙ sym e; opening = refl; round = refl })
+        (record { tables = ap with-holders (changed-table c) ∙ sym e; opening = refl; round = refl; first = refl; days = refl })
 
     states-recorded : told (openingIn b o) (tablesIn b o) body ≡ withStates (tablesIn b o) rows → r ≡ usingStates b n
         → RecordedAs b o body r (lendStates words o)
     unfolding withStates with-states
     states-recorded e h = subst (λ x. RecordedAs b o body x (lendStates words o)) (sym h)
-        (record { tables = ap with-states (changed-table c) ∙ sym e; opening = refl; round = refl })
+        (record { tables = ap with-states (changed-table c) ∙ sym e; opening = refl; round = refl; first = refl; days = refl })
 
   module _ {body : Body} {words : List ℕ} {n : ℕ} {r : Book} where
     -- message 1
@@ -103,11 +103,11 @@ module _ (b : Book) (o : Lists) where
   -- message 6
   pub reading-left : (p d h n at : ℕ) → at ≡ readingAt (openingIn b o) p d h
       → RecordedAs b o (Reading p d h n) b (lendReadings (set (o .readings) at n) o)
-  reading-left p d h n at e = record { tables = rw e (unfold told withReadings in refl); opening = refl; round = refl }
+  reading-left p d h n at e = record { tables = rw e (unfold told withReadings in refl); opening = refl; round = refl; first = refl; days = refl }
 
   -- message 7
   pub block-left : (p v : ℕ) → RecordedAs b o (Block p v) b (lendBlocks (set (o .blocks) p v) o)
-  block-left p v = record { tables = unfold told withBlocks in refl; opening = refl; round = refl }
+  block-left p v = record { tables = unfold told withBlocks in refl; opening = refl; round = refl; first = refl; days = refl }
 
 -- a message that writes a row is one of the first five
 pub no-row : {P : Type 0} (rows : List ℕ) (x : Body) → RowFits rows x → OneOf (5 ∷ 6 ∷ 7 ∷ []) (tagOf the-type x) → P
@@ -128,6 +128,7 @@ pub recorded-world : (b r : Book) (before after : Lists) (body : Body) → Recor
       opening = openingIn b before;
       position = record { tables = told (openingIn b before) (tablesIn b before) body; lines = after .lines };
       sent = record { totals = after .sent; round = b .round };
+      dates = record { first = b .first; days = b .days };
     }
 recorded-world b r before after body w same =
     ap₂ (λ (x : Opening) (y : Tables).
@@ -135,5 +136,6 @@ recorded-world b r before after body w same =
       opening = x;
       position = record { tables = y; lines = after .lines };
       sent = record { totals = after .sent; round = r .round };
+      dates = record { first = r .first; days = r .days };
     }) (same ∙ w .opening) (w .tables)
-    ∙ rw (w .round)
+    ∙ rw (w .round, w .first, w .days)

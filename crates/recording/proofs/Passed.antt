@@ -19,6 +19,7 @@ use Rattle.rules.specs.World.{rowsOf, monthFirst, monthDays, readingAt}
 use Rattle.rules.specs.WellFormed.{readingCount}
 use Rattle.rules.specs.Questions.{pointOf}
 use Rattle.rules.specs.Effects.{writesRow}
+use Rattle.rules.specs.Whole.{Dated}
 use Rattle.rules.specs.Ready.{Ready}
 use Rattle.rules.specs.Lent.{Lists, openingIn, tablesIn}
 use Rattle.rules.proofs.Passed.{own-quantity, own-reading, element-link, element-stop, element-quantity, point-inside}
@@ -64,9 +65,9 @@ module _ (b : Book) (o : Lists) where
   row-fits Round h r = absurd (false≢true h)
 
   -- message 6
-  pub reading-fits : (p d h n : ℕ) → Ready (openingIn b o) (tablesIn b o) (Reading p d h n) → ReadingFits b (o .readings) p d h n
+  pub reading-fits : Dated b → (p d h n : ℕ) → Ready (openingIn b o) (tablesIn b o) (Reading p d h n) → ReadingFits b (o .readings) p d h n
   unfolding pointOf readingCount monthFirst monthDays readingAt
-  reading-fits p d h n r =
+  reading-fits g p d h n r =
       let x = Reading p d h n in
       let i = point-inside (openingIn b o) (tablesIn b o) x p refl (r .point) in
       let j = own-reading (openingIn b o) (tablesIn b o) p d h n (r .own) in
@@ -74,7 +75,7 @@ module _ (b : Book) (o : Lists) where
       let m = mul-le-mul-right (daysOfMonth (b .year) (b .month)) i in
       let s = r .range in
       record {
-        of-month = record { month = r .limited .month; point-below = inside x p r refl; begun = j .0; day-below = s .0; hour-below = s .1 };
+        of-month = record { month = g; point-below = inside x p r refl; begun = j .0; day-below = s .0; hour-below = s .1 };
         energy-below = s .2;
         place = λ o. omega arith;
       }

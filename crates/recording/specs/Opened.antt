@@ -2,10 +2,28 @@
 use Prim.Native.Nat.{ℕ}
 use lib.IntN.{pos}
 use lib.ListN.{length, replicate}
+use Rattle.calendar.specs.Gregorian.{firstDay, daysOfMonth}
 use Rattle.rules.specs.declared.Book.{Book}
 use Rattle.rules.specs.Lent.{Lists, lendTables}
 
--- no row is in use, and the fixing comes next
+-- a book that is to be opened: its month and counts, and no row is in use
+abbrev pub namedBook : (year month points suppliers elements : ℕ) → Book
+namedBook year month points suppliers elements =
+    record {
+      year = year;
+      month = month;
+      points = points;
+      suppliers = suppliers;
+      elements = elements;
+      periods = 0;
+      holders = 0;
+      states = 0;
+      round = 1;
+      first = 0;
+      days = 0;
+    }
+
+-- no row is in use, the fixing comes next, and the month's first day and days are kept
 abbrev pub freshBook : (year month points suppliers elements : ℕ) → Book
 freshBook year month points suppliers elements =
     record {
@@ -18,6 +36,8 @@ freshBook year month points suppliers elements =
       holders = 0;
       states = 0;
       round = 1;
+      first = firstDay year month;
+      days = daysOfMonth year month;
     }
 
 -- every table that messages write, with zeros for what it held

@@ -29,6 +29,8 @@ usingPeriods b n =
       holders = b .holders;
       states = b .states;
       round = b .round;
+      first = b .first;
+      days = b .days;
     }
 
 abbrev pub usingHolders : Book → (used : ℕ) → Book
@@ -43,6 +45,8 @@ usingHolders b n =
       holders = n;
       states = b .states;
       round = b .round;
+      first = b .first;
+      days = b .days;
     }
 
 abbrev pub usingStates : Book → (used : ℕ) → Book
@@ -57,6 +61,8 @@ usingStates b n =
       holders = b .holders;
       states = n;
       round = b .round;
+      first = b .first;
+      days = b .days;
     }
 
 -- ---- what is asked
@@ -85,3 +91,5 @@ pub record RecordedAs (b : Book) (before : Lists) (body : Body) (r : Book) (afte
   pub tables : tablesIn r after ≡ told (openingIn b before) (tablesIn b before) body
   pub opening : openingIn r before ≡ openingIn b before
   pub round : r .round ≡ b .round
+  pub first : r .first ≡ b .first
+  pub days : r .days ≡ b .days

@@ -1,14 +1,38 @@
-// What an opening writes: a book in which no row is in use, and zeros into every table.
+// What an opening writes: a book in which no row is in use and which keeps the dates of its month, and zeros into every table.
 ghost use mathlib.Core.Path.{_≡_};
 ghost use lib.IntN.{pos};
 ghost use lib.ListN.{length, replicate};
+ghost use Rattle.calendar.specs.Gregorian.{InRange};
 ghost use Rattle.rules.specs.Lent.{Lists, lendTables, left, was};
-ghost use Rattle.recording.specs.Opened.{freshBook, cleared};
+ghost use Rattle.recording.specs.Opened.{namedBook, freshBook, cleared};
+use calendar::days_in_month;
+use calendar::first_day;
 use rules::Book;
 use tables::clear;
 
-// The book of an opening: no row is in use, and the fixing comes next.
+// A book that is to be opened: its month and counts, and no row is in use.
+pub fn named_book(year: u64, month: u64, points: u64, suppliers: u64, elements: u64) -> Book
+    ensures { λ r. ⌜ r ≡ namedBook year month points suppliers elements ⌝ }
+{
+    Book {
+        year: year,
+        month: month,
+        points: points,
+        suppliers: suppliers,
+        elements: elements,
+        periods: 0,
+        holders: 0,
+        states: 0,
+        round: 1,
+        first: 0,
+        days: 0,
+    }
+}
+
+// The book of an opening: no row is in use, the fixing comes next, and the month's first day and days are kept. Linear in the table of
+// months.
 pub fn fresh_book(year: u64, month: u64, points: u64, suppliers: u64, elements: u64) -> Book
+    requires { ⌜ InRange year month ⌝ }
     ensures { λ r. ⌜ r ≡ freshBook year month points suppliers elements ⌝ }
 {
     Book {
@@ -21,6 +45,8 @@ pub fn fresh_book(year: u64, month: u64, points: u64, suppliers: u64, elements: 
         holders: 0,
         states: 0,
         round: 1,
+        first: first_day(year, month),
+        days: days_in_month(year, month),
     }
 }
 

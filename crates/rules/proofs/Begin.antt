@@ -13,10 +13,10 @@ use Rattle.integers.proofs.Sums.{sum-zero}
 use Rattle.rules.specs.Sizes.{lineSize, mostEnergy}
 use Rattle.rules.specs.Basics.{within, chained, allIn, latest}
 use Rattle.rules.specs.Lines.{Measure, Terms, line}
-use Rattle.rules.specs.World.{Opening, World, tableOf, lineCount, energyOf, amountOf, storedAt, stored}
+use Rattle.rules.specs.World.{Opening, World, tableOf, monthFirst, monthDays, monthDates, lineCount, energyOf, amountOf, storedAt, stored}
 use Rattle.rules.specs.WellFormed.{withinLimits, rowsFit, readingCount, linePlaces, openingSized, tablesSized, linesSized, lineLimit}
 use Rattle.rules.specs.WellFormed.{lineRight, linesRight, linksRight, holdersRight, statesRight, question2, question3, question4}
-use Rattle.rules.specs.WellFormed.{question5}
+use Rattle.rules.specs.WellFormed.{datesRight, question5}
 use Rattle.rules.specs.Opening.{openingAnswer, opened}
 use Rattle.rules.specs.Fresh.{nothing, freshFacts}
 use Rattle.rules.proofs.Tests.{both}
@@ -60,6 +60,10 @@ passed w e =
     let a4 = asked-passed (question4 w) 4 0 0 (λ k. omega arith) (a3 .1) in
     record { limited = a2 .0; sized = a3 .0; elements = a4 .0 }
 
+dates-own : (o : Opening) → datesRight o (monthDates o) ≡ true
+unfolding datesRight
+dates-own o = rw (eq-eqb (monthFirst o) (monthFirst o) refl) (eq-eqb (monthDays o) (monthDays o) refl)
+
 module _ (w : World) where
   begin-tables : tablesSized (w .opening) (opened w .position .tables) ≡ true
   unfolding tablesSized opened tableOf
@@ -81,7 +85,7 @@ module _ (w : World) where
         blocks = all-same (λ x. leb x 1) (w .opening .points) 0 refl;
       },
       lines-zero (w .opening) (linePlaces (w .opening)),
-    ) (unfold within in refl);
+    ) (unfold within in dates-own (w .opening));
   }
 
   pub begin-agree : Agree (w .opening) (opened w .position .tables) nothing

@@ -16,7 +16,7 @@ use Rattle.rules.specs.World.{Opening, Tables, World, rowsOf, tableOf}
 use Rattle.rules.specs.Sizes.{places, endOfDays, holderSize, lastRound, mostEnergy, stateSize}
 use Rattle.rules.specs.WellFormed.{withinLimits, rowsFit, openingSized, tablesSized, linesSized, periodRight, apart, valueRight}
 use Rattle.rules.specs.WellFormed.{earlier, linksRight, holdersRight, statesRight, tablesRight, linesRight, question2, question3}
-use Rattle.rules.specs.WellFormed.{question4, question5}
+use Rattle.rules.specs.WellFormed.{datesRight, question4, question5}
 use Rattle.rules.specs.Questions.{pointOf}
 use Rattle.rules.specs.Effects.{withLinks, withHolders, withStates, withReadings, withBlocks, linkEnd, told, movedLine, movedLines}
 use Rattle.rules.specs.Effects.{isRound, sentAfter, tablesAfter, linesAfter, posted, question17}
@@ -225,7 +225,8 @@ posted-whole w b c r q =
     let s3 = both (linesSized o (w .position .lines)) (linesSized o (w .sent .totals)) (s2 .1) in
     let r1 = both (tablesRight o t) _ (c .right) in
     let r2 = both (linesRight o (w .position .lines)) _ (r1 .1) in
-    let r3 = both (linesRight o (w .sent .totals)) (within 1 3 (w .sent .round)) (r2 .1) in
+    let r3 = both (linesRight o (w .sent .totals)) _ (r2 .1) in
+    let r4 = both (within 1 3 (w .sent .round)) (datesRight o (w .dates)) (r3 .1) in
     let sized : tablesSized o (tablesAfter w b) ≡ true = unfold tablesAfter in told-sized o t b (s2 .0) (unfold tablesAfter in f .0) in
     let right : tablesRight o (tablesAfter w b) ≡ true = unfold tablesAfter in tables-right o (told o t b) (told-right o t b r) in
     let lines : linesSized o (linesAfter w b) ≡ true = unfold linesAfter in lines-sized o (w .position .lines) t (tablesAfter w b) in
@@ -233,5 +234,5 @@ posted-whole w b c r q =
       limited = rw (both (withinLimits o) (rowsFit t) (c .limited) .0) (f .0);
       sized = rw (s1 .0, sized, lines) (sent-kept (linesSized o) w b (s3 .0) (s3 .1));
       elements = c .elements;
-      right = rw (right, f .1, sent-kept (linesRight o) w b (r2 .0) (r3 .0)) (round-kept w b (r3 .1));
+      right = rw (right, f .1, sent-kept (linesRight o) w b (r2 .0) (r3 .0)) (rw (round-kept w b (r4 .0)) (r4 .1));
     }

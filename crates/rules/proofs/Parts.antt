@@ -10,17 +10,19 @@ use borrow.Author.Tests.{eqb-true, leb-true}
 use native.Mathlib.Nat.{mul-le-mul-right}
 use native.Mathlib.Omega.{arith}
 use Rattle.rules.specs.Basics.{within, chained, allIn}
-use Rattle.rules.specs.World.{Opening, Table, Tables, World, rowsOf, tableOf}
+use Rattle.rules.specs.declared.Book.{Book}
+use Rattle.rules.specs.World.{Opening, Table, Tables, World, rowsOf, tableOf, monthFirst, monthDays}
+use Rattle.rules.specs.Lent.{Lists, worldIn}
 use Rattle.rules.specs.Sizes.{elementSize, places, pricePlaces}
 use Rattle.rules.specs.Sizes.{firstYear, lastMonth, lastYear, mostElements, mostEnergy, mostLines, mostPoints, mostSuppliers}
 use Rattle.rules.specs.WellFormed.{withinLimits, rowsFit, readingCount, linePlaces, openingSized, tablesSized, linesSized}
 use Rattle.rules.specs.WellFormed.{periodRight, apart, tableRight, linksRight, holdersRight, statesRight, tablesRight, linesRight}
-use Rattle.rules.specs.WellFormed.{question2, question3, question5}
+use Rattle.rules.specs.WellFormed.{datesRight, question2, question3, question5}
 use Rattle.rules.proofs.Tests.{both}
 use Rattle.rules.proofs.Ranges.{within-low, within-high, all-same}
 use Rattle.rules.specs.Order.{Run}
 use Rattle.rules.proofs.PeriodsRight.{run-rows}
-use Rattle.rules.specs.Whole.{Limits, TablesRight, Whole}
+use Rattle.rules.specs.Whole.{Limits, Dated, TablesRight, Whole}
 
 pub limits : (o : Opening) → withinLimits o ≡ true → Limits o
 unfolding withinLimits
@@ -127,14 +129,28 @@ pub record Formed (w : World) : Type 0 where
   pub lines : linesRight (w .opening) (w .position .lines) ≡ true
   pub sent : linesRight (w .opening) (w .sent .totals) ≡ true
   pub round : within 1 3 (w .sent .round) ≡ true
+  pub dates : datesRight (w .opening) (w .dates) ≡ true
 
 pub formed : (w : World) → Whole w → Formed w
 unfolding question5
 formed w c =
     let r = both (tablesRight (w .opening) (w .position .tables)) _ (c .right) in
     let l = both (linesRight (w .opening) (w .position .lines)) _ (r .1) in
-    let s = both (linesRight (w .opening) (w .sent .totals)) (within 1 3 (w .sent .round)) (l .1) in
-    record { tables = tables-parts (w .opening) (w .position .tables) (r .0); lines = l .0; sent = s .0; round = s .1 }
+    let s = both (linesRight (w .opening) (w .sent .totals)) _ (l .1) in
+    let d = both (within 1 3 (w .sent .round)) (datesRight (w .opening) (w .dates)) (s .1) in
+    record { tables = tables-parts (w .opening) (w .position .tables) (r .0); lines = l .0; sent = s .0; round = d .0; dates = d .1 }
+
+-- a well-formed book has the first day and the days of its month
+pub dated : (b : Book) (t : Lists) → Whole (worldIn b t) → Dated b
+unfolding question2 datesRight monthFirst monthDays
+dated b t c =
+    let w = worldIn b t in
+    let d = both (eqb (b .first) (monthFirst (w .opening))) (eqb (b .days) (monthDays (w .opening))) (formed w c .dates) in
+    record {
+      month = limits (w .opening) (both (withinLimits (w .opening)) _ (c .limited) .0) .month;
+      first = eqb-true _ _ (d .0);
+      days = eqb-true _ _ (d .1);
+    }
 
 pub tables-right : (o : Opening) (t : Tables) → TablesRight o t → tablesRight o t ≡ true
 unfolding tablesRight

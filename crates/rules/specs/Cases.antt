@@ -37,6 +37,7 @@ firstBook =
         lines = replicate 3 (pos 0);
       };
       sent = record { totals = replicate 3 (pos 0); round = 1 };
+      dates = record { first = 8826; days = 31 };
     }
 
 -- a message about point 0 and element 0 from the grid company, received 8826

@@ -159,6 +159,7 @@ posted w b =
       opening = w .opening;
       position = record { tables = tablesAfter w b; lines = linesAfter w b };
       sent = sentAfter w b;
+      dates = w .dates;
     }
 
 -- ---- the answer: 0, or the number of the first question that fails

@@ -65,6 +65,7 @@ worldIn b o =
       opening = openingIn b o;
       position = record { tables = tablesIn b o; lines = o .lines };
       sent = record { totals = o .sent; round = b .round };
+      dates = record { first = b .first; days = b .days };
     }
 
 -- a table as a `requires` sees it, and as an `ensures` sees it

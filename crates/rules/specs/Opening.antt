@@ -6,7 +6,7 @@ use mathlib.Core.List.{[]}
 use lib.IntN.{pos}
 use lib.ListN.{replicate}
 use lib.Dec.{eqb}
-use Rattle.rules.specs.World.{World, tableOf}
+use Rattle.rules.specs.World.{World, tableOf, monthDates}
 use Rattle.rules.specs.WellFormed.{readingCount, linePlaces, question2, question3, question4}
 use Rattle.rules.specs.Effects.{ask}
 
@@ -30,6 +30,7 @@ opened w =
         lines = replicate (linePlaces (w .opening)) (pos 0);
       };
       sent = record { totals = replicate (linePlaces (w .opening)) (pos 0); round = 1 };
+      dates = monthDates (w .opening);
     }
 
 -- and a refused one as it was lent

@@ -13,7 +13,7 @@ use Rattle.rules.specs.Sizes.{elementSize, pricePlaces, hourPlaces, line
 use Rattle.rules.specs.Rows.{periodPoint, periodElement, periodFirst, periodEnd, periodQuantity, ofPair}
 use Rattle.rules.specs.Rows.{valuePoint, valueFirst, valueOf}
 use Rattle.rules.specs.Lines.{Measure, subscription, fee, tariff}
-use Rattle.rules.specs.World.{Opening, Table, Tables, World, rowsOf, monthDays, kindOf, ownerOf, marksOf, lineCount, storedAt}
+use Rattle.rules.specs.World.{Opening, Table, Tables, Dates, World, rowsOf, monthFirst, monthDays, kindOf, ownerOf, marksOf, lineCount, storedAt}
 use Rattle.rules.specs.World.{gridCompany, energinet, marked, passOn, tax, hourly, allMarks, newState, closed}
 
 -- ---- 2: "Is the month within 2000 to 2099 and every count within its limit?"
@@ -134,8 +134,12 @@ lineRight ls i =
 unfoldable pub linesRight : Opening → (lines : List ℤ) → Bool
 linesRight o ls = allTo (λ k. lineRight ls (k * lineSize)) (lineCount o)
 
+-- the first day and the days of the month are those of the calendar
+unfoldable pub datesRight : Opening → Dates → Bool
+datesRight o d = eqb (d .first) (monthFirst o) && eqb (d .days) (monthDays o)
+
 unfoldable pub question5 : World → Bool
 question5 w =
     tablesRight (w .opening) (w .position .tables)
     && (linesRight (w .opening) (w .position .lines)
-    && (linesRight (w .opening) (w .sent .totals) && within 1 lastRound (w .sent .round)))
+    && (linesRight (w .opening) (w .sent .totals) && (within 1 lastRound (w .sent .round) && datesRight (w .opening) (w .dates))))

@@ -3,7 +3,8 @@ use Prim.Native.Nat.{_≤_}
 use mathlib.Core.Path.{_≡_}
 use mathlib.Core.Bool.{true}
 use lib.Dec.{leb}
-use Rattle.calendar.specs.Gregorian.{InRange}
+use Rattle.calendar.specs.Gregorian.{InRange, firstDay, daysOfMonth}
+use Rattle.rules.specs.declared.Book.{Book}
 use Rattle.rules.specs.Basics.{allIn}
 use Rattle.rules.specs.World.{Opening, Tables, World}
 use Rattle.rules.specs.WellFormed.{linksRight, holdersRight, statesRight, question2, question3, question4, question5}
@@ -16,6 +17,14 @@ pub record Limits (o : Opening) : Type 0 where
   pub points : o .points ≤ mostPoints
   pub suppliers : o .suppliers ≤ mostSuppliers
   pub elements : o .elements ≤ mostElements
+
+-- ---- a book's own numbers for its month
+
+-- the month is one of the calendar, and its first day and its days are those of the book
+pub record Dated (b : Book) : Type 0 where
+  pub month : InRange (b .year) (b .month)
+  pub first : b .first ≡ firstDay (b .year) (b .month)
+  pub days : b .days ≡ daysOfMonth (b .year) (b .month)
 
 -- ---- question 5: all tables
 

@@ -47,10 +47,16 @@ pub record Sent : Type 0 where
   pub totals : List ℤ
   pub round : ℕ
 
+-- what the book keeps of its month: the first day, and how many days there are
+pub record Dates : Type 0 where
+  pub first : ℕ
+  pub days : ℕ
+
 pub record World : Type 0 where
   pub opening : Opening
   pub position : Position
   pub sent : Sent
+  pub dates : Dates
 
 -- the book's own numbers
 abbrev pub bookOf : World → Book
@@ -65,6 +71,8 @@ bookOf w =
       holders = w .position .tables .holders .used;
       states = w .position .tables .states .used;
       round = w .sent .round;
+      first = w .dates .first;
+      days = w .dates .days;
     }
 
 -- ---- tables of rows
@@ -83,6 +91,9 @@ monthFirst o = firstDay (o .year) (o .month)
 
 unfoldable pub monthDays : Opening → ℕ
 monthDays o = daysOfMonth (o .year) (o .month)
+
+abbrev pub monthDates : Opening → Dates
+monthDates o = record { first = monthFirst o; days = monthDays o }
 
 unfoldable pub kindOf : Opening → (element : ℕ) → ℕ
 kindOf o e = getD (o .elementData) (e * elementSize) 0

@@ -125,6 +125,9 @@ pub struct Book {
     pub states: u64,
     // the kind of the next round: 1 fixing, 2 refixing, 3 any later
     pub round: u64,
+    // the first day of the month and how many days it has, as the table of months has them
+    pub first: u64,
+    pub days: u64,
 }
 
 // A message as it came.

@@ -14,7 +14,7 @@ use Rattle.rules.specs.World.{World}
 use Rattle.rules.specs.Whole.{Whole}
 use Rattle.rules.specs.Effects.{step}
 use Rattle.rules.specs.Lent.{Lists, worldIn, lendElements, lendTables}
-use Rattle.recording.specs.Opened.{freshBook}
+use Rattle.recording.specs.Opened.{namedBook}
 use Rattle.settlement.specs.declared.Reply.{Reply}
 use Rattle.settlement.specs.Replies.{roomIn, Replied}
 use Rattle.file.specs.declared.fields.Phase.{Phase}
@@ -48,13 +48,13 @@ arm-over at b r t out from e = rw e (record { holds = refl; text = nothing-writt
 
 -- the month
 no-values : (year month points suppliers : ℕ) (t : Lists)
-    → HoldsValues (freshBook year month points suppliers 0) (t .elementData) (t .prices)
+    → HoldsValues (namedBook year month points suppliers 0) (t .elementData) (t .prices)
     (record { year = year; month = month; points = points; suppliers = suppliers }) []
 unfolding describedAll pricesAll
 no-values year month points suppliers t = record { book = refl; described = λ h. refl; priced = λ h. refl }
 
 pub arm-month : (at year month points suppliers next : ℕ) (bytes : List ℕ) (t : Lists) (out : List ℕ) (from : ℕ) (b : Book) (r : Advanced)
-    → b ≡ freshBook year month points suppliers 0
+    → b ≡ namedBook year month points suppliers 0
     → r ≡ advancedTo Phase.Elements false b 1 next from
     → Advances (moveOn at start (Month year month points suppliers next) bytes) (r .progress) t out out (r .next) from (r .written)
 unfolding moveOn

@@ -1,7 +1,7 @@
 -- The opening: what `settle` answers is what the code asks, and a book that opens finds the tables as the rules say.
 use Prim.Native.Nat.{ℕ, _+_, _*_, _≤_, _<_, min}
 use native.Mathlib.Omega.{arith}
-use mathlib.Core.Path.{_≡_, refl, sym, ap, _∙_}
+use mathlib.Core.Path.{_≡_, refl, sym, ap, subst, _∙_}
 use mathlib.Core.Logic.{_≢_}
 use mathlib.Core.Bool.{Bool, true, false}
 use mathlib.Core.List.{List}
@@ -19,7 +19,7 @@ use Rattle.rules.specs.WellFormed.{question3, question4}
 use Rattle.rules.specs.Opening.{openingAnswer, opened}
 use Rattle.rules.specs.Effects.{ask}
 use Rattle.rules.specs.Lent.{Lists, worldIn}
-use Rattle.rules.specs.Whole.{Limits, Whole}
+use Rattle.rules.specs.Whole.{Limits, Dated, Whole}
 use Rattle.rules.proofs.Tests.{cases, both}
 use Rattle.rules.proofs.Parts.{limits}
 use Rattle.rules.proofs.Passed.{asked-passed}
@@ -163,18 +163,16 @@ module _ (b : Book) (t : Lists) (h : Heading) (values : List (List ℕ)) (v : Ho
       (λ l. let k = leb-false _ _ l in many at (frontsOpening b t) more (collected-many k)
       ∙ sym (many at (collected h values) more (unfold collected in k)))
 
-  fresh-again : anew b ≡ b
-  fresh-again = rw (v .book)
-
   -- ---- what the opening prints and leaves
 
   module _ (t′ : Lists) (s : Sized t) (question : ℕ) (a : question ≡ settleAnswer (frontsOpening b t))
-      (c : question ≡ 0 → fronts b t′ ≡ cleared (fronts b t)) (out out′ : List ℕ) (at from : ℕ) (last : Bool) (r : Advanced)
-      (w : Written longestLine out out′ from (r .written) (openingText b question))
-      (e : r ≡ advancedTo Phase.Messages (openedOver question last) b 1 at (r .written))
+      (c : question ≡ 0 → fronts (anew b) t′ ≡ cleared (fronts (anew b) t)) (out out′ : List ℕ) (at from : ℕ) (last : Bool) (y : Book)
+      (f : question ≡ 0 → y ≡ anew b) (r : Advanced)
+      (w : Written longestLine out out′ from (r .written) (openingText y question))
+      (e : r ≡ advancedTo Phase.Messages (openedOver question last) y 1 at (r .written))
     where
-      opened-holds : (x : World) (l : Bool) → HoldsBook b t′ x
-          → Represents (advancedTo Phase.Messages l b 1 at (r .written) .progress) t′ (openedTo l x)
+      opened-holds : (x : World) (l : Bool) → HoldsBook (anew b) t′ x
+          → Represents (advancedTo Phase.Messages l (anew b) 1 at (r .written) .progress) t′ (openedTo l x)
       opened-holds x true k = refl
       opened-holds x false k = (refl, refl, k, refl)
 
@@ -182,16 +180,15 @@ module _ (b : Book) (t : Lists) (h : Heading) (values : List (List ℕ)) (v : Ho
       Done = Advances (opening at (collected h values) (openedTo last)) (r .progress) t′ out out′ (r .next) from (r .written)
 
       book-opens : question ≡ 0 → Done
-      unfolding opening lineOf monthDays monthFirst openingText
+      unfolding opening lineOf monthDays monthFirst openingText endsOf
       book-opens z =
           let k : settleAnswer (frontsOpening b t) ≡ 0 = sym a ∙ z in
           let p = settles (frontsOpening b t) k in
-          let same : frontsWorld b t′ ≡ opened (lentFor (frontsOpening b t)) =
-          ap (λ (x : Book). frontsWorld x t′) (sym fresh-again) ∙ opened-parts b t s k t′ (c z) in
-          rw (← opening-in at (openedTo last), e, z, k) (record {
+          let same : frontsWorld (anew b) t′ ≡ opened (lentFor (frontsOpening b t)) = opened-parts b t s k t′ (c z) in
+          rw (← opening-in at (openedTo last), e, f z, z, k) (record {
             holds = opened-holds (opened (lentFor (frontsOpening b t))) last
                 (record { world = sym same; whole = p .whole; points = p .points });
-            text = loosened (omega arith) (rw z at w);
+            text = loosened (omega arith) (rw (f z, z) at w);
             place = refl;
           })
 
@@ -207,6 +204,17 @@ module _ (b : Book) (t : Lists) (h : Heading) (values : List (List ℕ)) (v : Ho
 
       pub opening-advances : Done
       opening-advances = cases (eqb question 0) (λ x. book-opens (eqb-true _ _ x)) (λ x. book-stays (eqb-false _ _ x))
+
+-- the book that is opened fits the tables, and has the dates of its month
+pub fresh-ready : (b : Book) (t : Lists) → Sized t → settleAnswer (frontsOpening b t) ≡ 0 → Fitted (anew b) × Dated (anew b)
+fresh-ready b t s h =
+    let f = settled-fitted b t s h in (
+      record { month = f .month; points = f .points; suppliers = f .suppliers; elements = f .elements },
+      record { month = f .month; first = refl; days = refl },
+    )
+
+pub cleared-by : (x y : Book) (t t′ : Lists) → x ≡ y → fronts x t′ ≡ cleared (fronts x t) → fronts y t′ ≡ cleared (fronts y t)
+cleared-by x y t t′ e c = subst (λ (b : Book). fronts b t′ ≡ cleared (fronts b t)) e c
 
 -- the month of a book that opens
 pub open-month : (b : Book) (t : Lists) → settleAnswer (frontsOpening b t) ≡ 0 → InRange (b .year) (b .month)

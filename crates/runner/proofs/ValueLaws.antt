@@ -9,7 +9,7 @@ use lib.Seq.{length-take-le, take-at, drop-at}
 use Rattle.rules.specs.Sizes.{elementSize, mostElements, pricePlaces}
 use Rattle.rules.specs.declared.Book.{Book}
 use Rattle.rules.proofs.Ranges.{length-listTo}
-use Rattle.recording.specs.Opened.{freshBook}
+use Rattle.recording.specs.Opened.{namedBook}
 use Rattle.file.specs.Bytes.{placed}
 use Rattle.file.specs.Element.{priceAt, pricesIn, elementBytes, elementPrices}
 use Rattle.file.specs.Program.{Heading, describedAll, pricesAll}
@@ -54,7 +54,7 @@ counted-more n = omega arith
 
 module _ (b : Book) (ds : List ℕ) (ps : List ℤ) (h : Heading) (values : List (List ℕ)) (v : HoldsValues b ds ps h values) (value : List ℕ)
     (r : Book) (c : r ≡ counted b) where
-  book-more : r ≡ freshBook (h .year) (h .month) (h .points) (h .suppliers) (min (mostElements + 1) (length (values ++ (value ∷ []))))
+  book-more : r ≡ namedBook (h .year) (h .month) (h .points) (h .suppliers) (min (mostElements + 1) (length (values ++ (value ∷ []))))
   book-more = c ∙ rw (v .book, length-more values value, counted-more (length values))
 
   -- there is room for it

@@ -11,7 +11,7 @@ use Rattle.rules.specs.Sizes.{elementSize, mostElements, pricePlaces}
 use Rattle.rules.specs.World.{World}
 use Rattle.rules.specs.Lent.{Lists}
 use Rattle.rules.specs.Whole.{Whole}
-use Rattle.recording.specs.Opened.{freshBook}
+use Rattle.recording.specs.Opened.{namedBook}
 use Rattle.file.specs.declared.fields.Phase.{Phase}
 use Rattle.file.specs.Field.{headerSize, hourlyLength}
 use Rattle.file.specs.Lines.{Written}
@@ -24,7 +24,7 @@ use Rattle.runner.specs.Texts.{longestText, lastNumber}
 
 -- the month, the values of the elements so far, and their count, which stops at 65: more than 64 are question 2 whatever they are
 pub record HoldsValues (b : Book) (elementData : List ℕ) (prices : List ℤ) (h : Heading) (values : List (List ℕ)) : Type 0 where
-  pub book : b ≡ freshBook (h .year) (h .month) (h .points) (h .suppliers) (min (mostElements + 1) (length values))
+  pub book : b ≡ namedBook (h .year) (h .month) (h .points) (h .suppliers) (min (mostElements + 1) (length values))
   pub described : length values ≤ mostElements → take (length values * elementSize) elementData ≡ describedAll values
   pub priced : length values ≤ mostElements → take (length values * pricePlaces) prices ≡ pricesAll values
 
@@ -68,6 +68,8 @@ counted b =
       holders = b .holders;
       states = b .states;
       round = b .round;
+      first = b .first;
+      days = b .days;
     }
 
 -- ---- a run

@@ -21,7 +21,7 @@ use file::fields::Found;
 use file::fields::Phase;
 use file::fields::read_element;
 use file::output::put_refused;
-use recording::opening::fresh_book;
+use recording::opening::named_book;
 use rules::Book;
 use rules::Fields;
 use rules::MOST_ELEMENTS;
@@ -111,7 +111,7 @@ fn on_start(book: Book, found: Found, at: usize, out: &mut [u8], from: usize) ->
     moved(
         Phase::Elements,
         false,
-        fresh_book(year, month, points, suppliers, 0),
+        named_book(year, month, points, suppliers, 0),
         1,
         next,
         from,

@@ -28,6 +28,7 @@ use file::fields::Phase;
 use file::output::LONGEST_LINE;
 use file::reader::find;
 use recording::opening::fresh_book;
+use recording::opening::named_book;
 use rules::Book;
 use rules::MOST_LINES;
 use settlement::message;
@@ -83,7 +84,7 @@ pub fn begin() -> Progress
     Progress {
         phase: Phase::Start,
         over: false,
-        book: fresh_book(0, 0, 0, 0, 0),
+        book: named_book(0, 0, 0, 0, 0),
         number: 1,
     }
 }
@@ -150,8 +151,15 @@ pub fn advance(
         Task::Open { last } => {
             let question = number(ask_opening(book, element_data, prices));
             if question == 0 {
-                clear_parts(book, links, holders, states, readings, blocks, lines, sent);
-                return opening_done(book, question, last, at, out, from);
+                let fresh = fresh_book(
+                    book.year,
+                    book.month,
+                    book.points,
+                    book.suppliers,
+                    book.elements,
+                );
+                clear_parts(fresh, links, holders, states, readings, blocks, lines, sent);
+                return opening_done(fresh, question, last, at, out, from);
             }
             opening_done(book, question, last, at, out, from)
         }

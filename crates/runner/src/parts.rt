@@ -3,13 +3,14 @@ ghost use mathlib.Core.Path.{_≡_};
 ghost use Prim.Native.Nat.{_*_};
 ghost use lib.ListN.{length};
 ghost use Rattle.rules.specs.Sizes.{mostElements, elementSize, pricePlaces};
+ghost use Rattle.rules.specs.Whole.{Dated};
 ghost use Rattle.rules.specs.Answers.{numberOf};
 ghost use Rattle.rules.specs.Lent.{Lists, lendElements, lendTables, left, was};
 ghost use Rattle.recording.specs.Opened.{cleared};
 ghost use Rattle.file.specs.Program.{settleAnswer};
 ghost use Rattle.runner.specs.Parts.{Sized, Fitted, endsOf, fronts, frontsOpening, elementsAnswer};
 use calendar::LONGEST_MONTH;
-use calendar::days_in_month;
+use facts::month_days;
 use pricing::elements_right;
 use recording::opening::clear_tables;
 use rules::Answer;
@@ -46,12 +47,12 @@ pub struct Ends {
 }
 
 pub fn ends_of(book: Book) -> Ends
-    requires { ⌜ Fitted book ⌝ }
+    requires { ⌜ Fitted book × Dated book ⌝ }
     ensures { λ r. ⌜ r ≡ endsOf book ⌝ }
 {
     let elements = book.elements as usize;
     let points = book.points as usize;
-    let days = days_in_month(book.year, book.month) as usize;
+    let days = month_days(book) as usize;
     Ends {
         described: elements * ELEMENT_SIZE,
         priced: elements * PRICE_PLACES,
@@ -70,9 +71,9 @@ fn ask_elements(book: Book, element_data: &[u8], prices: &[i64]) -> Answer
     ensures { λ r. ⌜ ((o : Lists) →
         numberOf r ≡ elementsAnswer (frontsOpening book (lendElements (was element_data) (was prices) o))) ⌝ }
 {
-    let ends = ends_of(book);
-    let described = ends.described;
-    let priced = ends.priced;
+    let elements = book.elements as usize;
+    let described = elements * ELEMENT_SIZE;
+    let priced = elements * PRICE_PLACES;
     if elements_right(book, &element_data[..described], &prices[..priced]) {
         Answer::Accepted
     } else {
@@ -105,7 +106,7 @@ pub fn clear_parts(
     lines: &mut [i64],
     sent: &mut [i64],
 )
-    requires { ⌜ Fitted book ⌝ }
+    requires { ⌜ Fitted book × Dated book ⌝ }
     requires { ⌜ ((o : Lists) ×
         Sized (lendTables (now links) (now holders) (now states) (now readings) (now blocks) (now lines) (now sent) o)) ⌝ }
     ensures { λ _. ⌜ ((o : Lists) →

@@ -3,7 +3,7 @@ ghost use mathlib.Core.Path.{_≡_};
 ghost use mathlib.Core.Bool.{false};
 ghost use Prim.Native.Nat.{ℕ, _+_, _*_, _≤_, _<_};
 ghost use lib.ListN.{length};
-ghost use Rattle.calendar.specs.Gregorian.{InRange};
+ghost use Rattle.rules.specs.Whole.{Dated};
 ghost use Rattle.rules.specs.Basics.{listTo};
 ghost use Rattle.rules.specs.Lent.{left, was};
 ghost use Rattle.ledger.specs.RecordNumbers.{recordAt, RecordPlaces};
@@ -12,8 +12,8 @@ ghost use Rattle.file.specs.Program.{settleRecords, recordLines};
 ghost use Rattle.runner.specs.Texts.{longestText, lastNumber, advancedTo, openedOver, openingText, replyText};
 use crate::Advanced;
 use crate::moved;
-use calendar::days_in_month;
-use calendar::listed_first_day;
+use facts::month_days;
+use facts::month_first;
 use file::fields::Phase;
 use file::output::put_book;
 use file::output::put_record;
@@ -85,14 +85,14 @@ pub fn opening_done(
     out: &mut [u8],
     from: usize,
 ) -> Advanced
-    requires { ⌜ (question ≡ 0 → InRange (book .year) (book .month)) ⌝ }
+    requires { ⌜ (question ≡ 0 → Dated book) ⌝ }
     requires { ⌜ from + longestLine ≤ length (now out) ⌝ }
     ensures text { λ r. ⌜ Written longestLine (was out) (left out) from (r .written) (openingText book question) ⌝ }
     ensures moved { λ r. ⌜ r ≡ advancedTo Phase.Messages (openedOver question last) book 1 at (r .written) ⌝ }
 {
     if question == 0 {
-        let days = days_in_month(book.year, book.month);
-        let first = listed_first_day(book.year, book.month);
+        let days = month_days(book);
+        let first = month_first(book);
         let written = put_book(out, from, book.year, book.month, days, first);
         moved(Phase::Messages, last, book, 1, at, written)
     } else {

@@ -105,7 +105,7 @@ posted-rules b o body qs vs p =
 -- lines are no part of what is recorded
 recorded-lines : {b : Book} {before : Lists} {body : Body} {r : Book} {after : Lists} (lines : List ℤ) → RecordedAs b before body r after
     → RecordedAs b before body r (lendLines lines after)
-recorded-lines lines x = record { tables = x .tables; opening = x .opening; round = x .round }
+recorded-lines lines x = record { tables = x .tables; opening = x .opening; round = x .round; first = x .first; days = x .days }
 
 module _ (b : Book) (o : Lists) (body : Body) (qs vs : List ℤ) (p : Rules (openingIn b o) (tablesIn b o) body qs vs) where
   abbrev after-lines : List ℤ
@@ -142,6 +142,7 @@ module _ (b : Book) (o : Lists) (body : Body) (qs vs : List ℤ) (p : Rules (ope
               opening = openingIn b o;
               position = record { tables = v; lines = l };
               sent = record { totals = z; round = b .round };
+              dates = record { first = b .first; days = b .days };
             }) (e ∙ lines-moved) s);
       }
 

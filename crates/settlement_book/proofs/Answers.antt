@@ -9,6 +9,7 @@ use lib.Dec.{T, eqb, leb, ltb, ltb→lt}
 use lib.IntN.{ℤ}
 use borrow.Author.Tests.{eq-eqb, ne-eqb, eqb-true}
 use Rattle.calendar.proofs.Entries.{both-left, both-right}
+use Rattle.calendar.specs.Gregorian.{InRange}
 use Rattle.calendar.proofs.MonthLaws.{month-within}
 use Rattle.rules.specs.declared.Answer.{Answer}
 use Rattle.rules.specs.declared.Book.{Book}
@@ -17,6 +18,7 @@ use Rattle.rules.specs.declared.LineAnswer.{LineAnswer}
 use Rattle.rules.specs.declared.DayAnswer.{DayAnswer}
 use Rattle.rules.specs.Lines.{Measure}
 use Rattle.rules.specs.World.{World, bookOf, Opening, Tables, monthFirst, monthDays, stored}
+use Rattle.rules.specs.WellFormed.{withinLimits, question2}
 use Rattle.rules.specs.Questions.{question16}
 use Rattle.rules.specs.Opening.{openingAnswer, opened, afterOpening}
 use Rattle.rules.specs.Effects.{askBook, answer, accepted, stepBy, step}
@@ -24,12 +26,12 @@ use Rattle.rules.specs.Lent.{Lists, worldIn}
 use Rattle.rules.specs.Queries.{LineResult, lineNumber, lineQuery, lineNamed, lineRefused, periodsNumber, dayNumber}
 use Rattle.rules.specs.Queries.{lacksHolder}
 use Rattle.rules.specs.Answers.{numberOf, lineResult}
-use Rattle.rules.proofs.Tests.{cases}
+use Rattle.rules.proofs.Tests.{cases, both}
 use Rattle.rules.specs.Whole.{Whole}
 use Rattle.rules.proofs.Stored.{billionths-lt}
 use Rattle.rules.proofs.LineQuery.{query-stored}
 use Rattle.rules.proofs.Begin.{passed, begin-whole}
-use Rattle.rules.proofs.Parts.{lengths}
+use Rattle.rules.proofs.Parts.{lengths, limits}
 use Rattle.rules.proofs.BookLaws.{book-refused}
 use Rattle.recording.specs.Opened.{freshBook, cleared}
 use Rattle.recording.proofs.ClearLaws.{opened-cleared}
@@ -233,3 +235,9 @@ module _ {b : Book} {f : Fields} (o after : Lists) (r : Reply) (lent out : List 
         list = h₂ .list;
         count = rw (← h₂ .number, ← h₂ .count) c;
       }
+
+-- ---- an opening that questions 2 to 4 pass has a month of the calendar
+
+pub limited-month : (w : World) → openingAnswer w ≡ 0 → InRange (w .opening .year) (w .opening .month)
+unfolding question2
+limited-month w h = limits (w .opening) (both (withinLimits (w .opening)) _ (passed w h .limited) .0) .month

@@ -11,12 +11,12 @@ use Rattle.rules.specs.declared.DayAnswer.{DayAnswer}
 use Rattle.rules.specs.Queries.{LineResult}
 use Rattle.rules.specs.Answers.{numberOf}
 use Rattle.rules.specs.Sizes.{billion, endOfDays, lineSize}
-use Rattle.recording.specs.Opened.{freshBook}
+use Rattle.recording.specs.Opened.{namedBook, freshBook}
 
--- ---- a book and a message: nine numbers each, in the order of their fields
+-- ---- a book and a message: eleven numbers and nine, in the order of their fields
 
 abbrev pub bookSize : ℕ
-bookSize = 9
+bookSize = 11
 
 abbrev pub fieldsSize : ℕ
 fieldsSize = 9
@@ -33,12 +33,18 @@ bookIn ns =
       holders = getD ns 6 0;
       states = getD ns 7 0;
       round = getD ns 8 0;
+      first = getD ns 9 0;
+      days = getD ns 10 0;
     }
 
 abbrev pub numbersIn : Book → List ℕ
-numbersIn b = b .year ∷ b .month ∷ b .points ∷ b .suppliers ∷ b .elements ∷ b .periods ∷ b .holders ∷ b .states ∷ b .round ∷ []
+numbersIn b =
+    b .year ∷ b .month ∷ b .points ∷ b .suppliers ∷ b .elements ∷ b .periods ∷ b .holders ∷ b .states ∷ b .round ∷ b .first ∷ b .days ∷ []
 
--- the book that an opening gives: the first five numbers are taken
+-- the book that is to be opened, and the book that an opening gives: the first five numbers are taken
+abbrev pub namedIn : (numbers : List ℕ) → Book
+namedIn ns = namedBook (getD ns 0 0) (getD ns 1 0) (getD ns 2 0) (getD ns 3 0) (getD ns 4 0)
+
 abbrev pub freshIn : (numbers : List ℕ) → Book
 freshIn ns = freshBook (getD ns 0 0) (getD ns 1 0) (getD ns 2 0) (getD ns 3 0) (getD ns 4 0)
 

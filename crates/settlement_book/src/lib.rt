@@ -1,6 +1,6 @@
 // Every form for any book and any tables, opening, message and queries: questions 2 to 5, then the form for a book that is well formed; and
-// the functions that the static library exports, over numbers and slices. A book is nine numbers in the order of `rules::Book`, a message
-// nine in the order of `rules::Fields`; every table is lent. Where the numbers of a book, a message or a line are too many or too few, the
+// the functions that the static library exports, over numbers and slices. A book is eleven numbers in the order of `rules::Book`, a
+// message nine in the order of `rules::Fields`; every table is lent. Where the numbers of a book, a message or a line are too many or too few, the
 // answer is question 3, before anything else is asked. A refusal changes nothing that was lent.
 // A name that ends in `_within` is the form for a book that is well formed. Outside this file only the safe Rust wrapper calls these
 // (`library/src/book.rs`), which sees to what they ask; every other caller takes the forms that ask nothing.
@@ -31,6 +31,7 @@ use crate::questions::check_opening;
 use queries::periods_place;
 use recording::opening::clear_tables;
 use recording::opening::fresh_book;
+use recording::opening::named_book;
 use rules::Answer;
 use rules::Book;
 use rules::Fields;
@@ -68,13 +69,13 @@ pub extern "C" fn settlement_book_open(
     if book.len() != BOOK_SIZE {
         return number(Answer::WrongLength);
     }
-    let named = book_of(book);
-    let fresh = fresh_book(
-        named.year,
-        named.month,
-        named.points,
-        named.suppliers,
-        named.elements,
+    let asked_for = book_of(book);
+    let named = named_book(
+        asked_for.year,
+        asked_for.month,
+        asked_for.points,
+        asked_for.suppliers,
+        asked_for.elements,
     );
     let lengths = Lengths {
         element_data: element_data.len(),
@@ -87,10 +88,17 @@ pub extern "C" fn settlement_book_open(
         lines: lines.len(),
         sent: sent.len(),
     };
-    let asked = number(check_opening(fresh, element_data, prices, lengths));
+    let asked = number(check_opening(named, element_data, prices, lengths));
     if asked != 0 {
         return asked;
     }
+    let fresh = fresh_book(
+        named.year,
+        named.month,
+        named.points,
+        named.suppliers,
+        named.elements,
+    );
     clear_tables(links, holders, states, readings, blocks, lines, sent);
     put_book(book, fresh);
     0

@@ -19,7 +19,7 @@ use validation::questions::number;
 // ---- a book and a message
 
 // The numbers of a book, and of a message.
-pub const BOOK_SIZE: usize = 9;
+pub const BOOK_SIZE: usize = 11;
 
 pub const FIELDS_SIZE: usize = 9;
 
@@ -37,6 +37,8 @@ pub fn book_of(numbers: &[u64]) -> Book
         holders: numbers[6],
         states: numbers[7],
         round: numbers[8],
+        first: numbers[9],
+        days: numbers[10],
     }
 }
 
@@ -53,6 +55,8 @@ pub fn put_book(numbers: &mut [u64], book: Book)
     numbers[6] = book.holders;
     numbers[7] = book.states;
     numbers[8] = book.round;
+    numbers[9] = book.first;
+    numbers[10] = book.days;
 }
 
 pub fn fields_of(numbers: &[u64]) -> Fields

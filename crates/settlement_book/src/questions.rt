@@ -5,9 +5,10 @@ ghost use mathlib.Core.Bool.{_&&_};
 ghost use Prim.Native.Nat.{_*_, _≤_};
 ghost use lib.Dec.{leb};
 ghost use lib.ListN.{length};
+ghost use Rattle.calendar.specs.Gregorian.{InRange};
 ghost use Rattle.rules.specs.Basics.{allIn};
 ghost use Rattle.rules.specs.Sizes.{elementSize, mostEnergy};
-ghost use Rattle.rules.specs.WellFormed.{tablesRight, question3, question5};
+ghost use Rattle.rules.specs.WellFormed.{tablesRight, datesRight, question3, question5};
 ghost use Rattle.rules.specs.Effects.{askBook};
 ghost use Rattle.rules.specs.Opening.{openingAnswer};
 ghost use Rattle.rules.specs.Answers.{numberOf};
@@ -15,6 +16,7 @@ ghost use Rattle.rules.specs.Whole.{Limits};
 ghost use Rattle.rules.specs.Lent.{Lists, worldIn, openingIn, tablesIn, lent, lendData, lendElements, lendTables, was};
 ghost use Rattle.settlement_book.specs.Lengths.{lengthsOf, Measured};
 use calendar::days_in_month;
+use calendar::first_day;
 use ledger::lines::lines_right;
 use pricing::elements_right;
 use pricing::is_within;
@@ -173,6 +175,17 @@ fn tables_right(
     )
 }
 
+// The book's first day and days are those of its month. Linear in the table of months.
+fn dates_right(book: Book) -> bool
+    requires { ⌜ InRange (book .year) (book .month) ⌝ }
+    ensures { λ r. ⌜ ((o : Lists) → r ≡ datesRight (openingIn book o) (worldIn book o .dates)) ⌝ }
+{
+    both(
+        book.first == first_day(book.year, book.month),
+        book.days == days_in_month(book.year, book.month),
+    )
+}
+
 // The book is well formed.
 fn is_right(
     book: Book,
@@ -196,9 +209,10 @@ fn is_right(
     all_three(
         tables_right(book, element_data, links, holders, states, readings, blocks),
         lines_right(lines, count),
-        both(
+        all_three(
             lines_right(sent, count),
             is_within(1, LAST_ROUND, book.round),
+            dates_right(book),
         ),
     )
 }

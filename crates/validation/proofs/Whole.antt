@@ -20,7 +20,7 @@ use Rattle.rules.specs.WellFormed.{periodRight}
 use Rattle.rules.specs.Messages.{isDay, senderOf, bodyOf, both as bothOf, understood}
 use Rattle.rules.proofs.Tests.{cases, both}
 use Rattle.rules.proofs.PeriodsRight.{right-of}
-use Rattle.rules.proofs.Parts.{lengths, formed, links-each}
+use Rattle.rules.proofs.Parts.{lengths, formed, dated, links-each}
 use Rattle.rules.specs.Whole.{Whole}
 use Rattle.rules.proofs.Passed.{ranged}
 use Rattle.tables.proofs.Right.{whole-rows}
@@ -41,7 +41,7 @@ whole-readable b l c =
     let n = lengths (worldIn b l) c in
     let rows = whole-rows b l c in
     record {
-      month = n .limited .month;
+      month = dated b l c;
       points = n .limited .points;
       elements = n .limited .elements;
       data-length = n .elementData;

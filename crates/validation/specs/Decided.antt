@@ -5,7 +5,7 @@ use mathlib.Core.Bool.{Bool, true, not, _&&_, _||_, cond}
 use mathlib.Core.List.{List}
 use lib.ListN.{length, getD, take}
 use lib.Dec.{leb, ltb, eqb}
-use Rattle.calendar.specs.Gregorian.{InRange}
+use Rattle.rules.specs.Whole.{Dated}
 use Rattle.rules.specs.declared.Book.{Book}
 use Rattle.rules.specs.declared.Place.{Place}
 use Rattle.rules.specs.declared.Sender.{Sender}
@@ -87,7 +87,7 @@ pub record Linked (words : List ℕ) (used : ℕ) : Type 0 where
 
 -- a book that the questions can be asked of: every one that passes questions 2 to 5
 pub record Readable (b : Book) (elementData links holders states blocks : List ℕ) : Type 0 where
-  pub month : InRange (b .year) (b .month)
+  pub month : Dated b
   pub points : b .points ≤ mostPoints
   pub elements : b .elements ≤ mostElements
   pub data-length : length elementData ≡ b .elements * elementSize

@@ -4,7 +4,7 @@ ghost use mathlib.Core.Bool.{not, _&&_, _||_};
 ghost use Prim.Native.Nat.{ℕ, _+_, _*_, _/_, _%_, _≤_, _<_};
 ghost use lib.ListN.{length};
 ghost use lib.Dec.{leb, ltb, eqb};
-ghost use Rattle.calendar.specs.Gregorian.{InRange};
+ghost use Rattle.rules.specs.Whole.{Dated};
 ghost use Rattle.rules.specs.declared.Body.{Body};
 ghost use Rattle.rules.specs.Sizes.{endOfDays, elementSize, gridDaysBack, holderSize, stateSize};
 ghost use Rattle.rules.specs.Lines.{tariff};
@@ -17,9 +17,9 @@ ghost use Rattle.rules.specs.Answers.{numberOf};
 ghost use Rattle.tables.specs.Order.{LinkRows, ValueRows};
 ghost use Rattle.validation.specs.Decided.{asking, linkRight, decidedIn, allowed, orNext, spansDay};
 ghost use Rattle.validation.specs.Decided.{Placed, Linked, Readable, InRanges};
-use calendar::days_in_month;
-use calendar::first_day;
 use facts::holder_on;
+use facts::month_days;
+use facts::month_first;
 use facts::state_on;
 use pricing::is_marked;
 use pricing::kind_of;
@@ -367,12 +367,12 @@ fn can_change(book: Book, element_data: &[u8], links: &[u64], place: Place) -> A
 
 // Question 16: the day is in the month.
 fn in_month(book: Book, day: u64) -> Answer
-    requires { ⌜ InRange (book .year) (book .month) ⌝ }
+    requires { ⌜ Dated book ⌝ }
     ensures { λ r. ⌜ ((o : Lists) → numberOf r ≡ ask (question16 (openingIn book o) day) 16 0) ⌝ }
 {
-    let first = first_day(book.year, book.month);
+    let first = month_first(book);
     if first <= day {
-        if day < first + days_in_month(book.year, book.month) {
+        if day < first + month_days(book) {
             Answer::Accepted
         } else {
             Answer::OutsideMonth
@@ -479,7 +479,7 @@ fn decide_quantity(
 
 // Questions 7, 9 and 16 of a reading.
 fn decide_reading(book: Book, sender: Sender, point: u64, day: u64) -> Answer
-    requires { ⌜ InRange (book .year) (book .month) ⌝ }
+    requires { ⌜ Dated book ⌝ }
     ensures { λ r. ⌜ ((o : Lists) → numberOf r
         ≡ orNext (ask (ltb point (book .points)) 7 (ask (isGridCompany sender) 9 0)) (ask (question16 (openingIn book o) day) 16 0)) ⌝ }
 {

@@ -10,18 +10,18 @@ use borrow.Author.Needs.{needs}
 use Rattle.facts.proofs.reading_place.Statement.{statement}
 use Rattle.facts.proofs.reading_place.Tie as tie
 
-first-day-requires : tie.Need-first-day-requires
-first-day-requires c κs = search needs
+month-first-requires : tie.Need-month-first-requires
+month-first-requires c κs = search needs
 
-days-in-month-requires : tie.Need-days-in-month-requires
-days-in-month-requires c κs = search needs
+month-days-requires : tie.Need-month-days-requires
+month-days-requires c κs = search needs
 
-product : (c : tie.After-days-in-month) → c .before .before .args .point * c .days-in-month .result ≤ mostPoints * longestMonth
+product : (c : tie.After-month-days) → c .before .before .args .point * c .month-days .result ≤ mostPoints * longestMonth
 product c =
     let start : tie.Start = search in
     let days = days-range (start .args .book .year) (start .args .book .month) in
     let p : start .args .point ≤ mostPoints = omega arith in
-    let q : c .days-in-month .result ≤ longestMonth = rw (c .days-in-month .ensures) (days .1) in
+    let q : c .month-days .result ≤ longestMonth = rw (c .month-days .ensures) (days .1) in
     mul-le-mul p q
 
 mul-day-place : tie.Need-mul-day-place
@@ -41,14 +41,14 @@ add-result c = let p = product c in search needs
 
 returns : tie.Need-returns
 unfolding readingAt monthFirst monthDays
-returns c o = rw (c .before .first-day .ensures, c .days-in-month .ensures)
+returns c o = rw (c .before .month-first .ensures, c .month-days .ensures)
 
 pub reading-place-spec : {M : Type 1} → statement M
 reading-place-spec =
     tie.close
     (tie.spec
-    first-day-requires
-    days-in-month-requires
+    month-first-requires
+    month-days-requires
     mul-day-place
     sub-day-place
     add-day-place

@@ -1,25 +1,31 @@
 -- The opening's promise gives the world that the run starts from: the book of that opening in cleared tables, or what was lent.
-use Rattle.history.proofs.Reached.{opening-refused, opened-and-run, fresh-opened}
+use Rattle.history.proofs.Reached.{opening-refused, opened-and-run, named-number, named-refused, named-opened}
 use native.Mathlib.Omega.{arith}
 use borrow.Author.Needs.{needs}
 use Rattle.history.proofs.open_and_run.Statement.{statement}
 use Rattle.history.proofs.open_and_run.Tie as tie
 
 -- places on the way
-abbrev made-of : tie.After-put-book → tie.After-fresh-book
+abbrev made-of : tie.After-put-book → tie.After-named-book
 made-of c = search
 
 abbrev put-of : tie.After-settlement-book-open → tie.After-put-book
 put-of c = search
 
+abbrev book-read-of : tie.After-run → tie.After-book-of
+book-read-of c = search
+
+abbrev opened-from : tie.After-book-of → tie.After-settlement-book-open
+opened-from c = search
+
 abbrev opened-of : tie.After-run → tie.After-settlement-book-open
-opened-of c = search
+opened-of c = opened-from (book-read-of c)
 
 abbrev else-of : tie.After-run → tie.Else1
 else-of c = search
 
-fresh-book-requires : tie.Need-fresh-book-requires
-fresh-book-requires c κs = search needs
+named-book-requires : tie.Need-named-book-requires
+named-book-requires c κs = search needs
 
 slice-aggregate-put-book : tie.Need-slice-aggregate-put-book
 slice-aggregate-put-book c = search needs
@@ -61,11 +67,19 @@ returns : tie.Need-returns
 returns c =
     let opened : tie.After-settlement-book-open = search in
     let put = put-of opened in
-    let e = fresh-opened _ _ _ _ _ _ _ _ _ _ _ (made-of put .fresh-book .ensures) (put .put-book .ensures)
-    (opened .settlement-book-open .ensures .0) in
+    let m = made-of put .named-book .ensures in
+    let p = put .put-book .ensures in
+    let e = opened .settlement-book-open .ensures .0 in
     let left : tie.Then1 = search in
     let s = c .settled-as .ensures in
-    rw (s .0, s .1, s .2) (opening-refused _ _ _ (e .number) (e .world) _ (left .if1 .taken) _ _)
+    rw (s .0, s .1, s .2) (opening-refused _ _ (named-number _ _ _ _ _ _ _ _ _ _ _ m p e) _ (left .if1 .taken) _
+    (named-refused _ _ _ _ _ _ _ _ _ _ _ m p e (left .if1 .taken)) _ _)
+
+slice-aggregate-book-of : tie.Need-slice-aggregate-book-of
+slice-aggregate-book-of c = search needs
+
+book-of-requires : tie.Need-book-of-requires
+book-of-requires c κs = search needs
 
 run-requires : tie.Need-run-requires
 run-requires c κs = search needs
@@ -117,18 +131,22 @@ same-length-16 c = search needs
 returns-2 : tie.Need-returns-2
 returns-2 c =
     let ran : tie.After-run = search in
-    let opened = opened-of ran in
+    let read = book-read-of ran in
+    let opened = opened-from read in
     let put = put-of opened in
-    let e = fresh-opened _ _ _ _ _ _ _ _ _ _ _ (made-of put .fresh-book .ensures) (put .put-book .ensures)
-    (opened .settlement-book-open .ensures .0) in
+    let m = made-of put .named-book .ensures in
+    let p = put .put-book .ensures in
+    let e = opened .settlement-book-open .ensures .0 in
+    let z = else-of ran .if1 .left in
     let s = c .settled-as2 .ensures in
-    rw (s .0, s .1, s .2) (opened-and-run _ _ _ (e .number) (e .world) _ (else-of ran .if1 .left) _ _ _ _ _ _ (ran .run .ensures))
+    rw (s .0, s .1, s .2) (opened-and-run _ _ (named-number _ _ _ _ _ _ _ _ _ _ _ m p e) _ z _ _ _ _ _ _ _
+    (named-opened _ _ _ _ _ _ _ _ _ _ _ m p e z _ (read .book-of .ensures)) (ran .run .ensures))
 
 pub open-and-run-spec : {M : Type 1} → statement M
 open-and-run-spec =
     tie.close
     (tie.spec
-    fresh-book-requires
+    named-book-requires
     slice-aggregate-put-book
     put-book-requires
     slice-aggregate-settlement-book-open
@@ -142,6 +160,8 @@ open-and-run-spec =
     same-length-6
     same-length-7
     returns
+    slice-aggregate-book-of
+    book-of-requires
     run-requires
     settled-as-requires-2
     same-length-8

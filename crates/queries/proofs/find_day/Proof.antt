@@ -18,20 +18,20 @@ Inv-loop book links holders states point end day₀ day = Searched book links ho
 abbrev μ-loop : tie.MeasureT-loop
 μ-loop book links holders states point end day₀ day = end - day
 
-first-day-requires : tie.Need-first-day-requires Inv-loop μ-loop
-first-day-requires c κs = search needs
+month-first-requires : tie.Need-month-first-requires Inv-loop μ-loop
+month-first-requires c κs = search needs
 
-days-in-month-requires : tie.Need-days-in-month-requires Inv-loop μ-loop
-days-in-month-requires c κs = search needs
+month-days-requires : tie.Need-month-days-requires Inv-loop μ-loop
+month-days-requires c κs = search needs
 
 add-end : tie.Need-add-end Inv-loop μ-loop
 add-end c =
     let s : tie.Start Inv-loop μ-loop = search in
-    let m = month-within (s .args .book .year) (s .args .book .month) (s .pre .month) in
+    let m = month-within (s .args .book .year) (s .args .book .month) (s .pre .month .month) in
     omega arith
 
-first-day-requires-2 : tie.Need-first-day-requires-2 Inv-loop μ-loop
-first-day-requires-2 c κs = search needs
+month-first-requires-2 : tie.Need-month-first-requires-2 Inv-loop μ-loop
+month-first-requires-2 c κs = search needs
 
 loop-holds : tie.Need-loop-holds Inv-loop μ-loop
 loop-holds c =
@@ -46,7 +46,7 @@ lacks-holder-requires : tie.Need-lacks-holder-requires Inv-loop μ-loop
 lacks-holder-requires c κs =
     let s : tie.Start Inv-loop μ-loop = search in
     let a = s .args in
-    let m = month-within (a .book .year) (a .book .month) (s .pre .month) in
+    let m = month-within (a .book .year) (a .book .month) (s .pre .month .month) in
     let v = c .before .loop .inv in
     let e = v .last in
     (s .pre, record { from = v .from; upto = omega arith; within = omega arith })
@@ -66,7 +66,7 @@ add-day : tie.Need-add-day Inv-loop μ-loop
 add-day c =
     let s : tie.Start Inv-loop μ-loop = search in
     let a = s .args in
-    let m = month-within (a .book .year) (a .book .month) (s .pre .month) in
+    let m = month-within (a .book .year) (a .book .month) (s .pre .month .month) in
     let e = c .before .before .before .loop .inv .last in
     omega arith
 
@@ -102,10 +102,10 @@ find-day-spec =
     (tie.spec
     Inv-loop
     μ-loop
-    first-day-requires
-    days-in-month-requires
+    month-first-requires
+    month-days-requires
     add-end
-    first-day-requires-2
+    month-first-requires-2
     loop-holds
     lacks-holder-requires
     returns

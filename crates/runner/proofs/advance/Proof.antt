@@ -9,17 +9,19 @@ use lib.Seq.{length-take-le}
 use Rattle.rules.specs.Lent.{Lists, worldIn, given}
 use Rattle.file.specs.declared.fields.Found.{Found}
 use Rattle.runner.specs.Holding.{Represents}
-use Rattle.rules.specs.Whole.{Whole}
+use Rattle.rules.specs.declared.Book.{Book}
+use Rattle.rules.specs.Whole.{Dated, Whole}
+use Rattle.rules.proofs.Parts.{dated}
 use Rattle.file.proofs.FieldLaws.{inside-at}
 use Rattle.runner.specs.declared.parts.Ends.{Ends}
 use Rattle.file.specs.Field.{Inside}
 use Rattle.file.specs.Program.{Heading, collected, settleAnswer}
 use Rattle.runner.specs.declared.Advanced.{Advanced}
 use Rattle.runner.specs.Stages.{Stage, elements, messages, openedTo, opening as opening′, moveOn, foundAt, isMore}
-use Rattle.runner.specs.Parts.{Fitted, cutTo, frontsWorld, frontsOpening}
+use Rattle.runner.specs.Parts.{Fitted, cutTo, fronts, frontsWorld, frontsOpening, anew}
 use Rattle.runner.specs.Tasks.{taskOf, isOther}
 use Rattle.runner.proofs.PartLaws.{EndsFit, ends-fit, Within, within, whole-fitted}
-use Rattle.runner.proofs.OpenLaws.{open-month, settled-fitted, opening-advances}
+use Rattle.runner.proofs.OpenLaws.{open-month, fresh-ready, cleared-by, opening-advances}
 use Rattle.runner.proofs.TextLaws.{few-records, placed-records}
 use Rattle.runner.proofs.FoundLaws.{Takes, takes, Opens, opens}
 use Rattle.runner.proofs.ArmLaws.{advances-by, arm-message, stage-elements, stage-messages, InMessages}
@@ -127,11 +129,14 @@ open-more : (c : tie.After-task2)
     → isMore (foundAt (begun c .args .s .now) (begun c .args .at) (begun c .args .progress .phase) (begun c .args .ended)) ≡ false
 open-more c = ap isMore (sym (found-is (asked-opening c))) ∙ opening c .more-not
 
-abbrev cleared-number : tie.After-clear-parts → tie.After-number
-cleared-number c = search
+abbrev fresh-number : tie.After-fresh-book → tie.After-number
+fresh-number c = search
 
-abbrev cleared-passed : tie.After-clear-parts → tie.Then1
-cleared-passed c = search
+abbrev fresh-passed : tie.After-fresh-book → tie.Then1
+fresh-passed c = search
+
+abbrev cleared-fresh : tie.After-clear-parts → tie.After-fresh-book
+cleared-fresh c = search
 
 abbrev cleared-before : tie.After-opening-done → tie.After-clear-parts
 cleared-before c = search
@@ -155,6 +160,14 @@ is-other : (c : tie.After-enum-told) → isOther
 unfolding isOther
 is-other c = ap isOther (sym (task-is (other-asked c)) ∙ c .enum-told .given .1)
 
+-- the fresh book fits the tables, and has the dates of its month
+fresh-fits : (c : tie.After-fresh-book) → Fitted (c .fresh-book .result) × Dated (c .fresh-book .result)
+fresh-fits c =
+    let numbered = fresh-number c in
+    let s = begun (opening-of numbered) in
+    subst (λ (x : Book). Fitted x × Dated x) (sym (c .fresh-book .ensures))
+    (fresh-ready (s .args .progress .book) (lent s) (s .pre .0) (sym (question-is numbered) ∙ fresh-passed c .if1 .taken))
+
 find-requires : tie.Need-find-requires
 find-requires c κs = search needs
 
@@ -165,7 +178,10 @@ enum-known-task : tie.Need-enum-known-task
 enum-known-task c = search needs
 
 ends-of-requires : tie.Need-ends-of-requires
-ends-of-requires c κs = let known : tie.After-task = search in fitted known
+ends-of-requires c κs =
+    let known : tie.After-task = search in
+    let s = start-of known in
+    (fitted known, dated (s .args .progress .book) (fronts (s .args .progress .book) (lent s)) (open-book known .whole))
 
 slice-reshare-prefix-message : tie.Need-slice-reshare-prefix-message
 slice-reshare-prefix-message c =
@@ -251,20 +267,26 @@ ask-opening-requires c κs = search needs
 number-requires : tie.Need-number-requires
 number-requires c κs = search needs
 
-clear-parts-requires : tie.Need-clear-parts-requires
-clear-parts-requires c κs =
+fresh-book-requires : tie.Need-fresh-book-requires
+fresh-book-requires c κs =
     let numbered : tie.After-number = search in
     let yes : tie.Then1 = search in
     let s = begun (opening-of numbered) in
-    (settled-fitted (s .args .progress .book) (lent s) (s .pre .0) (sym (question-is numbered) ∙ yes .if1 .taken), (lent s, s .pre .0))
+    open-month (s .args .progress .book) (lent s) (sym (question-is numbered) ∙ yes .if1 .taken)
+
+clear-parts-requires : tie.Need-clear-parts-requires
+clear-parts-requires c κs =
+    let made : tie.After-fresh-book = search in
+    let s = begun (opening-of (fresh-number made)) in
+    (fresh-fits made, (lent s, s .pre .0))
 
 opening-done-requires : tie.Need-opening-done-requires
 opening-done-requires c κs =
     let done : tie.After-clear-parts = search in
-    let numbered = cleared-number done in
-    let s = begun (opening-of numbered) in
+    let made = cleared-fresh done in
+    let s = begun (opening-of (fresh-number made)) in
     let r = s .pre .1 .1 .1 .1 in
-    (λ z. open-month (s .args .progress .book) (lent s) (sym (question-is numbered) ∙ z), omega arith)
+    (λ z. fresh-fits made .1, omega arith)
 
 same-length : tie.Need-same-length
 same-length c = search needs
@@ -300,7 +322,8 @@ returns : tie.Need-returns
 returns c =
     let printed : tie.After-opening-done = search in
     let done = cleared-before printed in
-    let numbered = cleared-number done in
+    let made = cleared-fresh done in
+    let numbered = fresh-number made in
     let known = opening-of numbered in
     let s = begun known in
     let a = s .args in
@@ -309,7 +332,8 @@ returns c =
           let i = stage-elements (a .progress) (lent s) (s .pre .1 .1 .0 .0) (opening known .phase-is) stage h in
           advances-by (open-move known (i .heading) (i .values) stage (i .is))
           (opening-advances (a .progress .book) (lent s) (i .heading) (i .values) (i .holds) _ (s .pre .0) _ (question-is numbered)
-          (λ z. done .clear-parts .ensures (lent s)) _ _ (a .at) (a .from) _ (printed .opening-done .result) (e .0) (e .1)),
+          (λ z. cleared-by _ _ (lent s) _ (made .fresh-book .ensures) (done .clear-parts .ensures (lent s)))
+          _ _ (a .at) (a .from) _ _ (λ z. made .fresh-book .ensures) (printed .opening-done .result) (e .0) (e .1)),
       ap (λ (r : Advanced). r .more) (e .1) ∙ sym (open-more known),
     )
 
@@ -418,7 +442,8 @@ returns-3 c =
           let i = stage-elements (a .progress) (lent s) (s .pre .1 .1 .0 .0) (opening known .phase-is) stage h in
           advances-by (open-move known (i .heading) (i .values) stage (i .is))
           (opening-advances (a .progress .book) (lent s) (i .heading) (i .values) (i .holds) (lent s) (s .pre .0) _ (question-is numbered)
-          (λ z. absurd (refused-before printed .if1 .left z)) _ _ (a .at) (a .from) _ (printed .opening-done2 .result) (e .0) (e .1)),
+          (λ z. absurd (refused-before printed .if1 .left z)) _ _ (a .at) (a .from) _ _ (λ z. absurd (refused-before printed .if1 .left z))
+          (printed .opening-done2 .result) (e .0) (e .1)),
       ap (λ (r : Advanced). r .more) (e .1) ∙ sym (open-more known),
     )
 
@@ -467,6 +492,7 @@ advance-spec =
     enum-known-task-2
     ask-opening-requires
     number-requires
+    fresh-book-requires
     clear-parts-requires
     opening-done-requires
     same-length

@@ -3,7 +3,7 @@ use mathlib.Core.Path.{refl, sym, _∙_}
 use Rattle.rules.specs.World.{lineCount}
 use Rattle.rules.specs.Lent.{Lists, worldIn, lendCharging, lendLines}
 use Rattle.rules.proofs.Tests.{both}
-use Rattle.rules.proofs.Parts.{few-lines, lengths}
+use Rattle.rules.proofs.Parts.{few-lines, lengths, dated}
 use Rattle.tables.proofs.Right.{whole-rows}
 use Rattle.facts.proofs.LinkLaws.{link-fits, ends-below}
 use Rattle.recording.proofs.Passed.{row-fits}
@@ -68,7 +68,7 @@ post-requires c κs =
     let r = start .pre .0 .1 in
     let room = zeros-room (a .book .elements) (r .ready .limited .elements) in (
       (lendLines (a .lines .now) o, (postable (a .book) (lent start o) (a .body) r, ended .link-ends .ensures (lent start o))),
-      (start .pre .1, (unfold zeros in (room, room))),
+      (start .pre .1, ((unfold zeros in (room, room)), dated (a .book) (lent start o) (r .whole))),
     )
 
 slice-aggregate-is-fitting : tie.Need-slice-aggregate-is-fitting

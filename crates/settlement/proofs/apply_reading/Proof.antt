@@ -3,6 +3,7 @@ use mathlib.Core.Path.{refl}
 use Rattle.rules.specs.declared.Body.{Body}
 use Rattle.rules.specs.declared.Body.the-variants.{Reading}
 use Rattle.rules.specs.Lent.{Lists, lendCharging, lendLines}
+use Rattle.rules.proofs.Parts.{dated}
 use Rattle.recording.proofs.Passed.{reading-fits}
 use Rattle.settlement.proofs.Applying.{postable}
 use Rattle.settlement.proofs.ReadingApplied.{lines-asked, reading-applied, reading-refused}
@@ -28,14 +29,15 @@ settle-reading-requires c κs =
     let o = start .pre .0 in
     let r = start .pre .1 in (
       (lendLines (start .args .lines .now) o, postable (start .args .book) (lent start o) (body-of start) r),
-      lines-asked (start .args .book) (lent start o) (r .whole),
+      (lines-asked (start .args .book) (lent start o) (r .whole), dated (start .args .book) (lent start o) (r .whole)),
     )
 
 write-reading-requires : tie.Need-write-reading-requires
 write-reading-requires c κs =
     let settled : tie.After-settle-reading = search in
     let start = start-of settled in
-    reading-fits (start .args .book) (lent start (start .pre .0)) _ _ _ _ (start .pre .1 .ready)
+    let g = dated (start .args .book) (lent start (start .pre .0)) (start .pre .1 .whole) in
+    reading-fits (start .args .book) (lent start (start .pre .0)) g _ _ _ _ (start .pre .1 .ready)
 
 accepted-requires : tie.Need-accepted-requires
 accepted-requires c κs = search needs

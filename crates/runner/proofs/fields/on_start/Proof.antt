@@ -26,8 +26,8 @@ returns c =
       done .refuse .ensures .1,
     )
 
-fresh-book-requires : tie.Need-fresh-book-requires
-fresh-book-requires c κs = search needs
+named-book-requires : tie.Need-named-book-requires
+named-book-requires c κs = search needs
 
 moved-requires : tie.Need-moved-requires
 moved-requires c κs = search needs
@@ -36,9 +36,9 @@ returns-2 : tie.Need-returns-2
 returns-2 c =
     let start : tie.Start = search in
     let known : tie.After-found = search in
-    let fresh : tie.After-fresh-book = search in (
+    let named : tie.After-named-book = search in (
       λ t bytes. rw (known .found .given .1)
-          (arm-month (start .args .at) _ _ _ _ _ bytes t _ _ _ _ (fresh .fresh-book .ensures) (c .moved .ensures)),
+          (arm-month (start .args .at) _ _ _ _ _ bytes t _ _ _ _ (named .named-book .ensures) (c .moved .ensures)),
       ap (λ (r : Advanced). r .more) (c .moved .ensures),
     )
 
@@ -50,6 +50,6 @@ on-start-spec =
     refuse-requires
     same-length
     returns
-    fresh-book-requires
+    named-book-requires
     moved-requires
     returns-2)

@@ -4,14 +4,14 @@ use borrow.Author.Needs.{needs}
 use Rattle.runner.proofs.texts.opening_done.Statement.{statement}
 use Rattle.runner.proofs.texts.opening_done.Tie as tie
 
-days-in-month-requires : tie.Need-days-in-month-requires
-days-in-month-requires c κs =
+month-days-requires : tie.Need-month-days-requires
+month-days-requires c κs =
     let start : tie.Start = search in
     let yes : tie.Then1 = search in
     start .pre .0 (yes .if1 .taken)
 
-listed-first-day-requires : tie.Need-listed-first-day-requires
-listed-first-day-requires c κs =
+month-first-requires : tie.Need-month-first-requires
+month-first-requires c κs =
     let start : tie.Start = search in
     let yes : tie.Then1 = search in
     start .pre .0 (yes .if1 .taken)
@@ -35,11 +35,11 @@ returns : tie.Need-returns
 returns c =
     let start : tie.Start = search in
     let yes : tie.Then1 = search in
-    let counted : tie.After-days-in-month = search in
-    let first : tie.After-listed-first-day = search in
+    let counted : tie.After-month-days = search in
+    let first : tie.After-month-first = search in
     let put : tie.After-put-book = search in
-    line-put (start .args .book) (start .args .question) (yes .if1 .taken) _ _ (counted .days-in-month .ensures)
-    (first .listed-first-day .ensures)
+    line-put (start .args .book) (start .args .question) (yes .if1 .taken) _ _ (counted .month-days .ensures)
+    (first .month-first .ensures)
     _ _ _ _ (start .args .last) (start .args .at) (c .moved .result) (put .put-book .ensures) (c .moved .ensures)
 
 same-length-2 : tie.Need-same-length-2
@@ -58,8 +58,8 @@ pub opening-done-spec : {M : Type 1} → statement M
 opening-done-spec =
     tie.close
     (tie.spec
-    days-in-month-requires
-    listed-first-day-requires
+    month-days-requires
+    month-first-requires
     put-book-requires
     moved-requires
     put-refused-requires

@@ -1,7 +1,7 @@
 -- The tests of the rules, part by part.
-use Rattle.rules.proofs.Tests.{two-are, three-are}
-use Rattle.rules.specs.World.{lineCount}
-use Rattle.rules.specs.WellFormed.{linesRight, question5}
+use Rattle.rules.proofs.Tests.{three-are}
+use Rattle.rules.specs.World.{monthFirst, monthDays, lineCount}
+use Rattle.rules.specs.WellFormed.{linesRight, datesRight, question5}
 use borrow.Author.Needs.{needs}
 use Rattle.settlement_book.proofs.questions.is_right.Statement.{statement}
 use Rattle.settlement_book.proofs.questions.is_right.Tie as tie
@@ -21,11 +21,14 @@ lines-right-requires-2 c κs = search needs
 is-within-requires : tie.Need-is-within-requires
 is-within-requires c κs = search needs
 
-both-requires : tie.Need-both-requires
-both-requires c κs = search needs
+dates-right-requires : tie.Need-dates-right-requires
+dates-right-requires c κs = let start : tie.Start = search in start .pre .1 .limits .month
 
 all-three-requires : tie.Need-all-three-requires
 all-three-requires c κs = search needs
+
+all-three-requires-2 : tie.Need-all-three-requires-2
+all-three-requires-2 c κs = search needs
 
 abbrev lines-of : tie.After-lines-right2 → tie.After-lines-right
 lines-of c = search
@@ -34,14 +37,15 @@ abbrev tables-of : tie.After-lines-right → tie.After-tables-right
 tables-of c = search
 
 returns : tie.Need-returns
-unfolding question5 linesRight lineCount
+unfolding question5 linesRight lineCount datesRight monthFirst monthDays
 returns c o =
+    let dates : tie.After-dates-right = search in
     let round : tie.After-is-within = search in
     let sent : tie.After-lines-right2 = search in
     let lines = lines-of sent in
     let tables = tables-of lines in
-    three-are (c .all-three .ensures) (tables .tables-right .ensures o) (lines .lines-right .ensures)
-    (two-are (c .before .both .ensures) (sent .lines-right2 .ensures) (round .is-within .ensures))
+    three-are (c .all-three2 .ensures) (tables .tables-right .ensures o) (lines .lines-right .ensures)
+    (three-are (c .before .all-three .ensures) (sent .lines-right2 .ensures) (round .is-within .ensures) (dates .dates-right .ensures o))
 
 pub is-right-spec : {M : Type 1} → statement M
 is-right-spec =
@@ -52,6 +56,7 @@ is-right-spec =
     lines-right-requires
     lines-right-requires-2
     is-within-requires
-    both-requires
+    dates-right-requires
     all-three-requires
+    all-three-requires-2
     returns)
