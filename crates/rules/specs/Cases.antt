@@ -9,13 +9,14 @@ use Rattle.calendar.specs.Gregorian.{firstDay}
 use Rattle.rules.specs.declared.Fields.{Fields}
 use Rattle.rules.specs.Rows.{packPeriod, periodFirst, periodEnd, periodQuantity, packValue}
 use Rattle.rules.specs.Lines.{dayPrice}
-use Rattle.rules.specs.World.{World, rowsOf, tableOf}
+use Rattle.rules.specs.Sizes.{stateSize}
+use Rattle.rules.specs.World.{World, rowsOf, tableOf, connected}
 use Rattle.rules.specs.Effects.{answer, step}
 
--- March 2024, one point, one supplier, one subscription of the grid company's at 20,000,000: "One subscription linked from 8830, point
--- connected from 8826". Nobody holds the point, so the line is 0.
-unfoldable pub firstBook : World
-firstBook =
+-- March 2024, one point, one supplier, one subscription of the grid company's at 20,000,000, with these periods and states. Nobody holds
+-- the point, so the line is 0.
+unfoldable pub caseBook : (periods states : List ℕ) → World
+caseBook links states =
     record {
       opening = record {
         year = 2024;
@@ -28,9 +29,9 @@ firstBook =
       };
       position = record {
         tables = record {
-          links = tableOf (packPeriod 0 0 8830 36525 1 ∷ []);
-          holders = tableOf (packValue 32 0 8826 0 ∷ []);
-          states = tableOf (packValue 8 0 8826 2 ∷ []);
+          links = tableOf links;
+          holders = tableOf [];
+          states = tableOf states;
           readings = replicate 744 0;
           blocks = 0 ∷ [];
         };
@@ -39,6 +40,14 @@ firstBook =
       sent = record { totals = replicate 3 (pos 0); round = 1 };
       dates = record { first = 8826; days = 31 };
     }
+
+-- as its opening leaves it
+unfoldable pub emptyBook : World
+emptyBook = caseBook [] []
+
+-- "One subscription linked from 8830, point connected from 8826": what two messages make of it (`first-book` in proofs/MarkedCases.antt)
+unfoldable pub firstBook : World
+firstBook = caseBook (packPeriod 0 0 8830 36525 1 ∷ []) (packValue stateSize 0 8826 connected ∷ [])
 
 -- a message about point 0 and element 0 from the grid company, received 8826
 unfoldable pub message : (kind day value : ℕ) → Fields
