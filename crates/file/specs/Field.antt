@@ -128,6 +128,15 @@ unfoldable pub fieldOf : (bytes : List ℕ) → (phase : Phase) → Found
 fieldOf [] phase = End
 fieldOf (b ∷ bytes) phase = cond (wholeField (b ∷ bytes) && rightField phase (b ∷ bytes)) (fieldNamed (b ∷ bytes)) Broken
 
+-- the number of what was found: 1, question 1's, for a field that is broken
+abbrev pub foundNumber : Found → ℕ
+foundNumber (Month year month points suppliers next) = 0
+foundNumber (Element start length next) = 0
+foundNumber (Message fields next) = 0
+foundNumber End = 0
+foundNumber More = 0
+foundNumber Broken = 1
+
 -- ---- the same where the bytes in hand may not be all that is left
 
 -- the input ends after so many bytes of a field, or more follow

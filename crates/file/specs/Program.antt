@@ -15,7 +15,7 @@ use Rattle.rules.specs.Effects.{ask, answer, step, recordsOf}
 use Rattle.file.specs.declared.fields.Phase.{Phase}
 use Rattle.file.specs.declared.fields.Found.{Found}
 use Rattle.file.specs.declared.fields.Found.the-variants.{Month, Element, Message, End, More, Broken}
-use Rattle.file.specs.Field.{fieldOf}
+use Rattle.file.specs.Field.{fieldOf, foundNumber}
 use Rattle.file.specs.Element.{pricesIn}
 use Rattle.file.specs.Lines.{bookLine, recordLine, refusedLine}
 
@@ -53,7 +53,7 @@ onMessage End w number more = []
 onMessage (Month year month points suppliers next) w number more = endedBy 1
 onMessage (Element start size next) w number more = endedBy 1
 onMessage More w number more = endedBy 1
-onMessage Broken w number more = endedBy 1
+onMessage Broken w number more = endedBy (foundNumber Broken)
 
 -- at most `most` fields: no input has more fields than bytes
 unfoldable pub messagesFrom : (most : ℕ) → (bytes : List ℕ) → (world : World) → (number : ℕ) → List ℕ
@@ -133,7 +133,7 @@ onElement (Message f next) bytes h values more messages = openThen (collected h 
 onElement End bytes h values more messages = openThen (collected h values) (λ w. [])
 onElement (Month year month points suppliers next) bytes h values more messages = endedBy 1
 onElement More bytes h values more messages = endedBy 1
-onElement Broken bytes h values more messages = endedBy 1
+onElement Broken bytes h values more messages = endedBy (foundNumber Broken)
 
 unfoldable pub elementsFrom : (most : ℕ) → (bytes : List ℕ) → (heading : Heading) → (values : List (List ℕ)) → List ℕ
 elementsFrom zero bytes h values = []
@@ -152,7 +152,7 @@ onMonth (Element start size next) more = endedBy 1
 onMonth (Message f next) more = endedBy 1
 onMonth End more = endedBy 1
 onMonth More more = endedBy 1
-onMonth Broken more = endedBy 1
+onMonth Broken more = endedBy (foundNumber Broken)
 
 unfoldable pub settled : (bytes : List ℕ) → List ℕ
 settled bytes = onMonth (fieldOf bytes Phase.Start) (λ h next. elementsFrom (length bytes) (drop next bytes) h [])

@@ -10,7 +10,7 @@ use Rattle.rules.specs.declared.DayAnswer.{DayAnswer}
 use Rattle.rules.specs.World.{World, rowsOf, InBook}
 use Rattle.rules.specs.Opening.{openingAnswer}
 use Rattle.rules.specs.Queries.{lineNumber, lineQuery, lineGiven, ownLine, periodsQuery, dayNumber}
-use Rattle.rules.specs.Answers.{lineResult, DayAnswered}
+use Rattle.rules.specs.Answers.{lineResult, dayAnswerNumber, DayAnswered}
 use Rattle.rules.specs.Fresh.{freshFacts}
 use Rattle.rules.specs.Claim.{Event, reached}
 use Rattle.tables.specs.RowRange.{pairPlace}
@@ -38,13 +38,7 @@ pub record PeriodsAt (w : World) (point element : ℕ) (place count : ℕ) : Typ
   pub many : count ≡ length (periodsQuery w point element)
   pub rows : take count (drop place (w .position .tables .links .words)) ≡ periodsQuery w point element
 
--- does it name a day or none, and is no refusal
-abbrev pub isNaming : DayAnswer → Bool
-isNaming (DayAnswer.Day d) = true
-isNaming DayAnswer.NoDay = true
-isNaming (DayAnswer.Refused a) = false
-
--- the query for a day without a holder
+-- the query for a day without a holder: its number, and what it names
 pub record DayTold (w : World) (point : ℕ) (r : DayAnswer) : Type 0 where
-  pub told : isNaming r ≡ eqb (dayNumber w point) 0
+  pub number : dayAnswerNumber r ≡ dayNumber w point
   pub holds : DayAnswered w point r

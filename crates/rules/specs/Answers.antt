@@ -1,7 +1,6 @@
 -- "Each enum answer has a definition that gives this paper's number and values for each of its cases."
 use Prim.Native.Nat.{ℕ}
-use mathlib.Core.Path.{_≡_}
-use Rattle.rules.specs.declared.Book.{Book}
+use mathlib.Core.Logic.{_≢_}
 use Rattle.rules.specs.declared.Answer.{Answer}
 use Rattle.rules.specs.declared.Answer.the-variants.{Accepted, BrokenField, OutOfLimits, WrongLength, WrongElement, IllFormed}
 use Rattle.rules.specs.declared.Answer.the-variants.{OutOfRange, UnknownPoint, UnknownElement, NotPermitted, OutOfTime}
@@ -10,7 +9,7 @@ use Rattle.rules.specs.declared.Answer.the-variants.{OutsideMonth, Table
 use Rattle.rules.specs.declared.LineAnswer.{LineAnswer}
 use Rattle.rules.specs.declared.DayAnswer.{DayAnswer}
 use Rattle.rules.specs.World.{World}
-use Rattle.rules.specs.Queries.{LineResult, lineRefused, dayNumber, DayNamed, NoDayNamed}
+use Rattle.rules.specs.Queries.{LineResult, lineRefused, DayNamed, NoDayNamed}
 
 -- 0 for accepted, else the question's number
 abbrev pub numberOf : Answer → ℕ
@@ -40,8 +39,14 @@ lineResult (LineAnswer.Line quantity kroner billionths) =
     record { number = 0; quantity = quantity; kroner = kroner; billionths = billionths }
 lineResult (LineAnswer.Refused a) = lineRefused (numberOf a)
 
--- what holds of the answer to the query for a day without a holder
+-- the number of an answer to the query for a day without a holder
+abbrev pub dayAnswerNumber : DayAnswer → ℕ
+dayAnswerNumber (DayAnswer.Day d) = 0
+dayAnswerNumber DayAnswer.NoDay = 0
+dayAnswerNumber (DayAnswer.Refused a) = numberOf a
+
+-- what holds of its values; a refusal is by a question, so its number is not 0
 abbrev pub DayAnswered : World → (point : ℕ) → DayAnswer → Type 0
 DayAnswered w p (DayAnswer.Day d) = DayNamed w p d
 DayAnswered w p DayAnswer.NoDay = NoDayNamed w p
-DayAnswered w p (DayAnswer.Refused a) = numberOf a ≡ dayNumber w p
+DayAnswered w p (DayAnswer.Refused a) = numberOf a ≢ 0

@@ -1,6 +1,6 @@
 -- Question 6: from the fields as they came to a message. "Is the kind 1 to 8 and is every field in range, unused ones 0?"
 use Prim.Native.Nat.{ℕ}
-use mathlib.Core.Bool.{Bool, _&&_, cond}
+use mathlib.Core.Bool.{Bool, true, false, _&&_, cond}
 use mathlib.Core.Option.{Option, none, some}
 use lib.Dec.{leb, ltb, eqb}
 use Rattle.rules.specs.declared.Fields.{Fields}
@@ -60,6 +60,11 @@ both received (some s) (some b) = some (record { sender = s; received = received
 -- the message, where question 6 passes
 unfoldable pub understood : (suppliers : ℕ) → Fields → Option Message
 understood suppliers f = cond (isDay (f .received)) (both (f .received) (senderOf suppliers f) (bodyOf suppliers f)) none
+
+-- 6: "Is the kind 1 to 8 and is every field in range, unused ones 0?"
+unfoldable pub question6 : Option Message → Bool
+question6 none = false
+question6 (some m) = true
 
 unfoldable pub bodyIn : Option Message → Option Body
 bodyIn none = none

@@ -25,7 +25,7 @@ use Rattle.rules.specs.Effects.{askBook, answer, accepted, stepBy, step}
 use Rattle.rules.specs.Lent.{Lists, worldIn}
 use Rattle.rules.specs.Queries.{LineResult, lineNumber, lineQuery, lineNamed, lineRefused, periodsNumber, dayNumber}
 use Rattle.rules.specs.Queries.{lacksHolder}
-use Rattle.rules.specs.Answers.{numberOf, lineResult}
+use Rattle.rules.specs.Answers.{numberOf, lineResult, dayAnswerNumber}
 use Rattle.rules.proofs.Tests.{cases, both}
 use Rattle.rules.specs.Whole.{Whole}
 use Rattle.rules.proofs.Stored.{billionths-lt}
@@ -40,7 +40,7 @@ use Rattle.queries.proofs.Asks.{line-passed, day-passed}
 use Rattle.queries.proofs.Answered.{line-refused}
 use Rattle.settlement.specs.declared.Reply.{Reply}
 use Rattle.settlement.specs.Replies.{roomIn, Replied}
-use Rattle.settlement_book.specs.Numbers.{bookIn, numbersIn, lineNumbers, lineAfter, InKrone, dayAfter, dayAnswerNumber}
+use Rattle.settlement_book.specs.Numbers.{bookIn, numbersIn, lineNumbers, lineAfter, InKrone, dayAfter}
 use Rattle.settlement_book.specs.Promises.{OpensIn, RepliesIn, LineIn, PeriodsIn, DayIn}
 
 -- a test that is false of a number that is 0
@@ -136,7 +136,7 @@ pub day-in-numbers : (w : World) (p : ℕ) (r : DayAnswer) → DayTold w p r →
     → DayIn w p n lent out
 unfolding monthFirst monthDays
 day-in-numbers w p (DayAnswer.Day d) h n i lent out j =
-    let z : dayNumber w p ≡ 0 = eqb-true _ _ (sym (h .told)) in
+    let z : dayNumber w p ≡ 0 = sym (h .number) in
     record {
       number = i ∙ sym z;
       refused = λ k. absurd (k i);
@@ -149,18 +149,17 @@ day-in-numbers w p (DayAnswer.Day d) h n i lent out j =
     }
 day-in-numbers w p DayAnswer.NoDay h n i lent out j =
     record {
-      number = i ∙ sym (eqb-true _ _ (sym (h .told)));
+      number = i ∙ h .number;
       refused = λ k. absurd (k i);
       named = λ k l. absurd (omega arith);
       none = λ k l. (j, h .holds);
     }
 day-in-numbers w p (DayAnswer.Refused a) h n i lent out j =
-    let z = i ∙ h .holds in
     record {
-      number = z;
+      number = i ∙ h .number;
       refused = λ k. j;
-      named = λ k. absurd (not-zero _ (h .told) (sym z ∙ k));
-      none = λ k. absurd (not-zero _ (h .told) (sym z ∙ k));
+      named = λ k. absurd (h .holds (sym i ∙ k));
+      none = λ k. absurd (h .holds (sym i ∙ k));
     }
 
 pub day-no-book : (w : World) (p : ℕ) (a : Answer) → numberOf a ≡ askBook w 0 → numberOf a ≢ 0 → (n : ℕ) → n ≡ numberOf a → (lent : ℕ)
@@ -168,7 +167,7 @@ pub day-no-book : (w : World) (p : ℕ) (a : Answer) → numberOf a ≡ askBook 
 unfolding dayNumber
 day-no-book w p a h z n i lent =
     let k : numberOf a ≡ dayNumber w p = h ∙ sym (book-refused w (λ x. z (h ∙ x)) _) in
-    day-in-numbers w p (DayAnswer.Refused a) (record { told = sym (ne-eqb _ _ (λ x. z (k ∙ x))); holds = k }) n i lent lent refl
+    day-in-numbers w p (DayAnswer.Refused a) (record { number = k; holds = z }) n i lent lent refl
 
 -- ---- an opening
 

@@ -9,7 +9,6 @@ use Rattle.rules.specs.declared.Fields.{Fields}
 use Rattle.rules.specs.declared.LineAnswer.{LineAnswer}
 use Rattle.rules.specs.declared.DayAnswer.{DayAnswer}
 use Rattle.rules.specs.Queries.{LineResult}
-use Rattle.rules.specs.Answers.{numberOf}
 use Rattle.rules.specs.Sizes.{billion, endOfDays, lineSize}
 use Rattle.recording.specs.Opened.{namedBook, freshBook}
 
@@ -97,8 +96,3 @@ abbrev pub dayAfter : DayAnswer → (lent : ℕ) → ℕ
 dayAfter (DayAnswer.Day d) lent = d
 dayAfter DayAnswer.NoDay lent = noDay
 dayAfter (DayAnswer.Refused a) lent = lent
-
-abbrev pub dayAnswerNumber : DayAnswer → ℕ
-dayAnswerNumber (DayAnswer.Day d) = 0
-dayAnswerNumber DayAnswer.NoDay = 0
-dayAnswerNumber (DayAnswer.Refused a) = numberOf a

@@ -4,7 +4,7 @@ use Prim.Native.Nat.{ℕ}
 use mathlib.Core.Path.{_≡_, refl, _∙_}
 use mathlib.Core.Logic.{_≢_}
 use mathlib.Core.Bool.{Bool, true, false}
-use mathlib.Core.Option.{some}
+use mathlib.Core.Option.{Option, none, some}
 use lib.Dec.{eqb}
 use borrow.Author.Tests.{ne-eqb}
 use Rattle.rules.specs.declared.Sender.{Sender}
@@ -12,6 +12,7 @@ use Rattle.rules.specs.declared.Body.{Body}
 use Rattle.rules.specs.declared.Place.{Place}
 use Rattle.rules.specs.declared.Message.{Message}
 use Rattle.rules.specs.World.{Opening, Tables, World}
+use Rattle.rules.specs.Messages.{question6}
 use Rattle.rules.specs.Questions.{ownNumber, ownQuestion}
 use Rattle.rules.specs.Effects.{ask, question17, question18, answerTo}
 use Rattle.validation.specs.Decided.{decided, allowed, orNext}
@@ -69,6 +70,12 @@ module _ (o : Opening) (t : Tables) where
   unfolding allowed
   allowed-chain from received l =
       ask-chain _ 9 refl _ (ask-chain _ 10 refl _ (ask-chain _ 11 refl _ (ask-chain _ 12 refl _ chain-end)))
+
+-- the rules' answer asks question 6 first
+pub answer-asks-6 : (w : World) (x : Option Message) (room : ℕ) → answerTo w x room ≡ ask (question6 x) 6 (answerTo w x room)
+unfolding ask question6 answerTo
+answer-asks-6 w none room = refl
+answer-asks-6 w (some m) room = refl
 
 -- the rules' answer to a message: questions 7 to 16, then 17 and 18
 pub answer-decided : (w : World) (m : Message) (room : ℕ)

@@ -1,4 +1,5 @@
--- What a found sender, body or message is: the value of document 01, or none.
+-- What a found sender, body or message is: the value of document 01, or none; and the number of question 6's answer.
+use Prim.Native.Nat.{ℕ}
 use mathlib.Core.Option.{Option, none, some}
 use Rattle.rules.specs.declared.Sender.{Sender}
 use Rattle.rules.specs.declared.Body.{Body}
@@ -18,3 +19,7 @@ foundBody FoundBody.Unknown = none
 abbrev pub foundMessage : Understood → Option Message
 foundMessage (Understood.Passed m) = some m
 foundMessage Understood.Refused = none
+
+abbrev pub understoodNumber : Understood → ℕ
+understoodNumber (Understood.Passed m) = 0
+understoodNumber Understood.Refused = 6

@@ -5,9 +5,10 @@ ghost use lib.Dec.{leb, ltb, eqb};
 ghost use Rattle.rules.specs.Basics.{within, when};
 ghost use Rattle.rules.specs.Sizes.{hourPlaces, mostEnergy};
 ghost use Rattle.rules.specs.World.{newState, closed};
-ghost use Rattle.rules.specs.Messages.{senderOf, bodyOf, both, understood, isDay, noHour, noElement, isQuantity};
+ghost use Rattle.rules.specs.Messages.{senderOf, bodyOf, both, understood, question6, isDay, noHour, noElement, isQuantity};
+ghost use Rattle.rules.specs.Effects.{ask};
 ghost use Rattle.rules.specs.declared.Body.{Body};
-ghost use Rattle.validation.specs.Found.{foundSender, foundBody, foundMessage};
+ghost use Rattle.validation.specs.Found.{foundSender, foundBody, foundMessage, understoodNumber};
 use pricing::is_within;
 use rules::Body;
 use rules::CLOSED;
@@ -279,7 +280,8 @@ fn joined(received: u64, sender: FoundSender, body: FoundBody) -> Understood
 
 // Question 6, of any fields.
 pub fn understand(suppliers: u64, f: Fields) -> Understood
-    ensures { λ r. ⌜ foundMessage r ≡ understood suppliers f ⌝ }
+    ensures message { λ r. ⌜ foundMessage r ≡ understood suppliers f ⌝ }
+    ensures number { λ r. ⌜ understoodNumber r ≡ ask (question6 (understood suppliers f)) 6 0 ⌝ }
 {
     if is_day(f.received) {
         joined(f.received, sender_of(suppliers, f), body_of(suppliers, f))

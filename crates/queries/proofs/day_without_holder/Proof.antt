@@ -1,6 +1,5 @@
 -- Where question 7 does not say no, the search answers.
 use mathlib.Core.Path.{_≡_, sym, _∙_}
-use borrow.Author.Tests.{ne-eqb}
 use Rattle.rules.specs.Queries.{dayNumber}
 use Rattle.rules.specs.Answers.{numberOf}
 use Rattle.rules.specs.Whole.{Whole}
@@ -44,7 +43,7 @@ returns-2 : tie.Need-returns-2
 returns-2 c o whole =
     let asked : tie.After-ask-point = search in
     let e = number-is asked o whole in
-    record { told = sym (ne-eqb _ _ (λ h. c .if1 .left (c .before .number .ensures ∙ e ∙ h))); holds = e }
+    record { number = e; holds = λ h. c .if1 .left (c .before .number .ensures ∙ h) }
 
 pub day-without-holder-spec : {M : Type 1} → statement M
 day-without-holder-spec =

@@ -6,7 +6,6 @@ use Rattle.rules.proofs.Tests.{is-T}
 use Rattle.rules.specs.Lent.{worldIn, lendRows}
 use Rattle.queries.proofs.Asks.{day-open}
 use Rattle.queries.proofs.Lacks.{Searched, searched-more, searched-all}
-use borrow.Author.Tests.{eq-eqb}
 use native.Mathlib.Omega.{arith}
 use borrow.Author.Needs.{needs}
 use Rattle.queries.proofs.find_day.Statement.{statement}
@@ -58,7 +57,7 @@ returns c o whole =
     let h = day-open (worldIn (a .book) (lendRows (a .links .now) (a .holders .now) (a .states .now) o)) whole (a .point)
     (start .pre .point) in
     record {
-      told = sym (eq-eqb _ _ h);
+      number = sym h;
       holds = record { number = h; lacks = is-T _ (sym (c .before .lacks-holder .ensures o) ∙ c .if1 .taken) };
     }
 
@@ -89,7 +88,7 @@ returns-2 c o whole =
     let h = day-open (worldIn (a .book) (lendRows (a .links .now) (a .holders .now) (a .states .now) o)) whole (a .point)
     (start .pre .point) in
     record {
-      told = sym (eq-eqb _ _ h);
+      number = sym h;
       holds = record {
         number = h;
         none = searched-all (a .book) (a .links .now) (a .holders .now) (a .states .now) (a .point) _ (l .day) (l .inv) (omega arith) o;

@@ -38,7 +38,7 @@ message-of c = c .understood .given .0 .0
 message-is : (c : tie.After-understood) → understood (start-of c .args .book .suppliers) (start-of c .args .fields) ≡ some (message-of c)
 message-is c =
     let read : tie.After-understand = search in
-    sym (read .understand .ensures) ∙ ap foundMessage (c .understood .given .1)
+    sym (read .understand .ensures .0) ∙ ap foundMessage (c .understood .given .1)
 
 -- which has passed questions 7 to 16
 abbrev read-of : tie.Else1 → tie.After-understood
@@ -76,7 +76,7 @@ returns c =
     let read : tie.After-understand = search in
     let told : tie.After-enum-told = search in
     let e = c .refused .ensures in
-    let u = sym (read .understand .ensures) ∙ ap foundMessage (told .enum-told .given .1) in
+    let u = sym (read .understand .ensures .0) ∙ ap foundMessage (told .enum-told .given .1) in
     let g = replied-refused (world start) _ (start .args .fields) _ (start .args .records .now) _ 6
     (answer-none (world start) (start .pre) (start .args .fields) _ u) (λ z. omega arith) (ap numberOf (e .0))
     (ap (λ b. worldIn b (lent start)) (e .1)) refl (e .2) in

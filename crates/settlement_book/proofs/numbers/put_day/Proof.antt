@@ -1,6 +1,7 @@
 -- `settlement_book::put_day` meets its contract: by the case of the answer.
 use mathlib.Core.Path.{sym, ap, _∙_}
-use Rattle.settlement_book.specs.Numbers.{dayAfter, dayAnswerNumber}
+use Rattle.rules.specs.Answers.{dayAnswerNumber}
+use Rattle.settlement_book.specs.Numbers.{dayAfter}
 use borrow.Author.Needs.{needs}
 use Rattle.settlement_book.proofs.numbers.put_day.Statement.{statement}
 use Rattle.settlement_book.proofs.numbers.put_day.Tie as tie
