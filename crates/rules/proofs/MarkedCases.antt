@@ -26,7 +26,8 @@ use Rattle.rules.specs.WellFormed.{withinLimits, rowsFit, question2, rea
 use Rattle.rules.specs.WellFormed.{question3, priceLimit, priceSize, elementRight, question4, periodRight, apart, valueRight, earlier}
 use Rattle.rules.specs.WellFormed.{tableRight, linksRight, holdersRight, statesRight, tablesRight, lineLimit, lineRight, linesRight}
 use Rattle.rules.specs.WellFormed.{datesRight, question5}
-use Rattle.rules.specs.Messages.{isDay, senderOf, noHour, noElement, isQuantity, bodyOf, both, understood, bodyIn}
+use Rattle.rules.specs.Messages.{isDay, senderOf, noHour, noElement, isQuantity, fieldsRight, valueFits, bodyNamed, bodyOf, both}
+use Rattle.rules.specs.Messages.{understood, bodyIn}
 use Rattle.rules.specs.Questions.{pointOf, placeOf, question7, tariffOnce, question8, blocked, isGridCompany, isEnerginet, mayLink}
 use Rattle.rules.specs.Questions.{maySend, question9, inTime, question10, question11, question12, question13, question14, question15}
 use Rattle.rules.specs.Questions.{ownQuestion, ownNumber}
@@ -87,7 +88,7 @@ record Made : Type 0 where
   links : after (caseBook [] inState) (message 1 8830 1) ≡ firstBook
 
 made : Made
-unfolding openingAnswer opened emptyBook isLeap hasThirty daysOfMonth firstOf firstDay within allTo anyTo allIn chained listTo when asked orElse latest packPeriod periodPoint periodElement periodFirst periodEnd periodQuantity ofPair covers quantityOn startsOn nextStart insertRow stopRows splitRows packValue valuePoint valueFirst valueOf recordedOn recordRow rowsOf tableOf monthFirst monthDays kindOf ownerOf marksOf marked isTariff stateOn linkedOn lineCount amountOf storedAt withinLimits rowsFit question2 readingCount linePlaces openingSized tablesSized linesSized question3 priceLimit priceSize elementRight question4 periodRight apart valueRight earlier tableRight linksRight holdersRight statesRight tablesRight lineLimit lineRight linesRight datesRight question5 isDay senderOf noHour noElement isQuantity bodyOf both understood bodyIn pointOf placeOf question7 tariffOnce question8 blocked isGridCompany isEnerginet mayLink maySend question9 inTime question10 question11 question12 question13 question14 question15 ownQuestion ownNumber withLinks withHolders withStates linkEnd told isRound written sentAfter tablesAfter posted ask question18 answerTo askBook answer accepted stepBy step message after caseBook firstBook periods answerAndPeriods naturals
+unfolding openingAnswer opened emptyBook isLeap hasThirty daysOfMonth firstOf firstDay within allTo anyTo allIn chained listTo when asked orElse latest packPeriod periodPoint periodElement periodFirst periodEnd periodQuantity ofPair covers quantityOn startsOn nextStart insertRow stopRows splitRows packValue valuePoint valueFirst valueOf recordedOn recordRow rowsOf tableOf monthFirst monthDays kindOf ownerOf marksOf marked isTariff stateOn linkedOn lineCount amountOf storedAt withinLimits rowsFit question2 readingCount linePlaces openingSized tablesSized linesSized question3 priceLimit priceSize elementRight question4 periodRight apart valueRight earlier tableRight linksRight holdersRight statesRight tablesRight lineLimit lineRight linesRight datesRight question5 isDay senderOf noHour noElement isQuantity fieldsRight valueFits bodyNamed bodyOf both understood bodyIn pointOf placeOf question7 tariffOnce question8 blocked isGridCompany isEnerginet mayLink maySend question9 inTime question10 question11 question12 question13 question14 question15 ownQuestion ownNumber withLinks withHolders withStates linkEnd told isRound written sentAfter tablesAfter posted ask question18 answerTo askBook answer accepted stepBy step message after caseBook firstBook periods answerAndPeriods naturals
 made = record {
   accepted = refl;
   opens = refl;
@@ -115,7 +116,7 @@ record Sent : Type 0 where
   unlinked : answerAndPeriods firstBook (message 3 8829 2) ≡ naturals (15 ∷ 8830 ∷ 36525 ∷ 1 ∷ [])
 
 sends : Sent
-unfolding openingAnswer opened emptyBook isLeap hasThirty daysOfMonth firstOf firstDay within allTo anyTo allIn chained listTo when asked orElse latest packPeriod periodPoint periodElement periodFirst periodEnd periodQuantity ofPair covers quantityOn startsOn nextStart insertRow stopRows splitRows packValue valuePoint valueFirst valueOf recordedOn recordRow rowsOf tableOf monthFirst monthDays kindOf ownerOf marksOf marked isTariff stateOn linkedOn lineCount amountOf storedAt withinLimits rowsFit question2 readingCount linePlaces openingSized tablesSized linesSized question3 priceLimit priceSize elementRight question4 periodRight apart valueRight earlier tableRight linksRight holdersRight statesRight tablesRight lineLimit lineRight linesRight datesRight question5 isDay senderOf noHour noElement isQuantity bodyOf both understood bodyIn pointOf placeOf question7 tariffOnce question8 blocked isGridCompany isEnerginet mayLink maySend question9 inTime question10 question11 question12 question13 question14 question15 ownQuestion ownNumber withLinks withHolders withStates linkEnd told isRound written sentAfter tablesAfter posted ask question18 answerTo askBook answer accepted stepBy step message after caseBook firstBook periods answerAndPeriods naturals
+unfolding openingAnswer opened emptyBook isLeap hasThirty daysOfMonth firstOf firstDay within allTo anyTo allIn chained listTo when asked orElse latest packPeriod periodPoint periodElement periodFirst periodEnd periodQuantity ofPair covers quantityOn startsOn nextStart insertRow stopRows splitRows packValue valuePoint valueFirst valueOf recordedOn recordRow rowsOf tableOf monthFirst monthDays kindOf ownerOf marksOf marked isTariff stateOn linkedOn lineCount amountOf storedAt withinLimits rowsFit question2 readingCount linePlaces openingSized tablesSized linesSized question3 priceLimit priceSize elementRight question4 periodRight apart valueRight earlier tableRight linksRight holdersRight statesRight tablesRight lineLimit lineRight linesRight datesRight question5 isDay senderOf noHour noElement isQuantity fieldsRight valueFits bodyNamed bodyOf both understood bodyIn pointOf placeOf question7 tariffOnce question8 blocked isGridCompany isEnerginet mayLink maySend question9 inTime question10 question11 question12 question13 question14 question15 ownQuestion ownNumber withLinks withHolders withStates linkEnd told isRound written sentAfter tablesAfter posted ask question18 answerTo askBook answer accepted stepBy step message after caseBook firstBook periods answerAndPeriods naturals
 sends = record {
   again = refl;
   before = rw (fits linked inState (Body.Link 0 0 8829 1) refl refl);

@@ -8,16 +8,18 @@ use lib.Dec.{leb, ltb, eqb}
 use lib.ListN.{length}
 use borrow.Author.Tests.{eqb-true, eq-eqb, leb-true, ltb-true, not-true}
 use native.Mathlib.Omega.{arith}
-use Rattle.rules.specs.Sizes.{endOfDays, hourPlaces, mostEnergy, mostQuantity}
+use Rattle.rules.specs.Sizes.{endOfDays, hourPlaces, mostQuantity}
 use Rattle.rules.specs.declared.Fields.{Fields}
 use Rattle.rules.specs.declared.Sender.{Sender}
 use Rattle.rules.specs.declared.Body.{Body}
 use Rattle.rules.specs.declared.Body.the-variants.{Link, Stop, Quantity, Holder, State, Reading, Block, Round}
 use Rattle.rules.specs.declared.Message.{Message}
 use Rattle.rules.specs.Basics.{within, when, asked}
+use Rattle.rules.specs.World.{newState, closed}
 use Rattle.rules.specs.World.{Opening, Tables, World, rowsOf, kindOf, isTariff, linkedOn, monthFirst, monthDays}
 use Rattle.rules.specs.WellFormed.{question2, question3, question4, question5}
-use Rattle.rules.specs.Messages.{isDay, noHour, noElement, isQuantity, senderOf, bodyOf, both as bothOf, understood, bodyIn}
+use Rattle.rules.specs.Messages.{isDay, isQuantity, fieldsRight, valueFits, bodyNamed, senderOf, bodyOf, both as bothOf}
+use Rattle.rules.specs.Messages.{understood, bodyIn}
 use Rattle.rules.specs.Questions.{pointOf, placeOf, tariffOnce, question7, question8, question9, question10, question11, question12}
 use Rattle.rules.specs.Questions.{question13, question15, question16, ownNumber, ownQuestion}
 use Rattle.rules.specs.Effects.{ask, question17, question18, answerTo, askBook, answer, accepted, written, writtenBy, recordsOf}
@@ -29,119 +31,116 @@ use Rattle.rules.specs.Whole.{TablesRight, Whole}
 use Rattle.rules.proofs.Parts.{lengths, formed, links-run}
 use Rattle.rules.specs.Ready.{Ranged, Ready}
 
--- ---- question 6: what holds of every body that fields can make
+-- ---- question 6: what holds of fields that are a message
 
-module _ (suppliers : ℕ) (f : Fields) (P : Body → Type 0) where
-  pub record Made : Type 0 where
-    pub link : f .kind ≡ 1 → isDay (f .day) && (noHour f && isQuantity (f .value)) ≡ true
-        → P (Link (f .point) (f .element) (f .day) (f .value))
-    pub stop : f .kind ≡ 2 → isDay (f .day) && (noHour f && eqb (f .value) 0) ≡ true → P (Stop (f .point) (f .element) (f .day))
-    pub quantity : f .kind ≡ 3 → isDay (f .day) && (noHour f && isQuantity (f .value)) ≡ true
-        → P (Quantity (f .point) (f .element) (f .day) (f .value))
-    pub holder : f .kind ≡ 4 → isDay (f .day) && (noElement f && leb (f .value) suppliers) ≡ true
-        → P (Holder (f .point) (f .day) (f .value))
-    pub state : f .kind ≡ 5 → isDay (f .day) && (noElement f && within 1 4 (f .value)) ≡ true → P (State (f .point) (f .day) (f .value))
-    pub reading : f .kind ≡ 6 → isDay (f .day) && (eqb (f .element) 0 && (ltb (f .hour) hourPlaces && leb (f .value) mostEnergy)) ≡ true
-        → P (Reading (f .point) (f .day) (f .hour) (f .value))
-    pub block : f .kind ≡ 7 → eqb (f .day) 0 && (noElement f && leb (f .value) 1) ≡ true → P (Block (f .point) (f .value))
-    pub round : P Round
-
-  module _ (b : Body) where
-    of-when : (t : Bool) (a : Body) → (t ≡ true → P a) → when t a ≡ some b → P b
-    unfolding when
-    of-when true a g e = let z : a ≡ b = cc in subst P z (g refl)
-    of-when false a g e = absurd (let z : _≡_ {A = ℕ} 0 1 = cc in omega arith)
-
-    of-cond : (n k : ℕ) (t : Bool) (a : Body) (y : Option Body) → (n ≡ k → t ≡ true → P a) → (y ≡ some b → P b)
-        → cond (eqb n k) (when t a) y ≡ some b → P b
-    of-cond n k t a y g h e = cases (eqb n k)
-        (λ c. of-when t a (g (eqb-true n k c)) (rw c at e))
-        (λ c. h (rw c at e))
-
-    made-body : Made → bodyOf suppliers f ≡ some b → P b
-    unfolding bodyOf
-    made-body m =
-        of-cond (f .kind) 1 _ (Link (f .point) (f .element) (f .day) (f .value)) _ (m .link)
-        (of-cond (f .kind) 2 _ (Stop (f .point) (f .element) (f .day)) _ (m .stop)
-        (of-cond (f .kind) 3 _ (Quantity (f .point) (f .element) (f .day) (f .value)) _ (m .quantity)
-        (of-cond (f .kind) 4 _ (Holder (f .point) (f .day) (f .value)) _ (m .holder)
-        (of-cond (f .kind) 5 _ (State (f .point) (f .day) (f .value)) _ (m .state)
-        (of-cond (f .kind) 6 _ (Reading (f .point) (f .day) (f .hour) (f .value)) _ (m .reading)
-        (of-cond (f .kind) 7 _ (Block (f .point) (f .value)) _ (m .block)
-        (of-when _ Round (λ t. m .round))))))))
-
-  pub made : Made → (m : Message) → understood suppliers f ≡ some m → P (m .body)
-  unfolding understood bothOf
-  made k m e = cases (isDay (f .received))
-      (λ t. go (senderOf suppliers f) (bodyOf suppliers f) refl (rw t at e))
-      (λ t. let e′ : none ≡ some m = rw t at e in let z : _≡_ {A = ℕ} 0 1 = cc in absurd (omega arith))
-    where
-      go : (o : Option Sender) (c : Option Body) → bodyOf suppliers f ≡ c → bothOf (f .received) o c ≡ some m → P (m .body)
-      go none c q h = let z : _≡_ {A = ℕ} 0 1 = cc in absurd (omega arith)
-      go (some s) none q h = let z : _≡_ {A = ℕ} 0 1 = cc in absurd (omega arith)
-      go (some s) (some c) q h =
-          let z : m ≡ record { sender = s; received = f .received; body = c } = cc in
-          subst (λ (x : Message). P (x .body)) (sym z) (made-body c k q)
+pub record Understands (suppliers : ℕ) (f : Fields) (m : Message) : Type 0 where
+  pub day : f .received < endOfDays
+  pub fields : fieldsRight f ≡ true
+  pub value : valueFits suppliers (f .kind) (f .value) ≡ true
+  pub received : m .received ≡ f .received
+  pub body : m .body ≡ bodyNamed f
 
 module _ (suppliers : ℕ) (f : Fields) where
-  -- a day, and the value's own test
-  day-value : (unused value : Bool) → isDay (f .day) && (unused && value) ≡ true → (f .day < endOfDays) × (value ≡ true)
-  unfolding isDay
-  day-value unused value h = let k = both (ltb (f .day) endOfDays) (unused && value) h in (ltb-true _ _ (k .0), both unused value (k .1) .1)
+  body-named : (b : Body) → bodyOf suppliers f ≡ some b
+      → (fieldsRight f ≡ true) × (valueFits suppliers (f .kind) (f .value) ≡ true) × (b ≡ bodyNamed f)
+  unfolding bodyOf when
+  body-named b e = cases (fieldsRight f && valueFits suppliers (f .kind) (f .value))
+      (λ t. let e′ : some (bodyNamed f) ≡ some b = rw t at e in
+      let k = both (fieldsRight f) (valueFits suppliers (f .kind) (f .value)) t in
+      (k .0, k .1, (cc)))
+      (λ t. let e′ : none ≡ some b = rw t at e in let z : _≡_ {A = ℕ} 0 1 = cc in absurd (omega arith))
 
-  quantity-value : isDay (f .day) && (noHour f && isQuantity (f .value)) ≡ true
-      → (f .day < endOfDays) × (1 ≤ f .value) × (f .value ≤ mostQuantity)
+  pub understands : (m : Message) → understood suppliers f ≡ some m → Understands suppliers f m
+  unfolding understood bothOf isDay
+  understands m e = cases (isDay (f .received))
+      (λ t. go (ltb-true _ _ t) (senderOf suppliers f) (bodyOf suppliers f) refl (rw t at e))
+      (λ t. let e′ : none ≡ some m = rw t at e in let z : _≡_ {A = ℕ} 0 1 = cc in absurd (omega arith))
+    where
+      go : f .received < endOfDays → (o : Option Sender) (c : Option Body) → bodyOf suppliers f ≡ c → bothOf (f .received) o c ≡ some m
+          → Understands suppliers f m
+      go d none c q h = let z : _≡_ {A = ℕ} 0 1 = cc in absurd (omega arith)
+      go d (some s) none q h = let z : _≡_ {A = ℕ} 0 1 = cc in absurd (omega arith)
+      go d (some s) (some c) q h =
+          let z : m ≡ record { sender = s; received = f .received; body = c } = cc in
+          let k = body-named c q in
+          record { day = d; fields = k .0; value = k .1; received = rw z; body = rw z (k .2) }
+
+-- what holds of the body that a kind number names holds where it does of each
+module _ (f : Fields) (P : Body → Type 0) where
+  pub record ByKind : Type 0 where
+    pub link : f .kind ≡ 1 → P (Link (f .point) (f .element) (f .day) (f .value))
+    pub stop : f .kind ≡ 2 → P (Stop (f .point) (f .element) (f .day))
+    pub quantity : f .kind ≡ 3 → P (Quantity (f .point) (f .element) (f .day) (f .value))
+    pub holder : f .kind ≡ 4 → P (Holder (f .point) (f .day) (f .value))
+    pub state : f .kind ≡ 5 → P (State (f .point) (f .day) (f .value))
+    pub reading : f .kind ≡ 6 → P (Reading (f .point) (f .day) (f .hour) (f .value))
+    pub block : f .kind ≡ 7 → P (Block (f .point) (f .value))
+    pub round : P Round
+
+  of-cond : (n k : ℕ) (a b : Body) → (n ≡ k → P a) → P b → P (cond (eqb n k) a b)
+  of-cond n k a b g h = cases (eqb n k) (λ t. rw t (g (eqb-true n k t))) (λ t. rw t h)
+
+  pub by-kind : ByKind → P (bodyNamed f)
+  unfolding bodyNamed
+  by-kind k =
+      of-cond (f .kind) 1 _ _ (k .link)
+      (of-cond (f .kind) 2 _ _ (k .stop)
+      (of-cond (f .kind) 3 _ _ (k .quantity)
+      (of-cond (f .kind) 4 _ _ (k .holder)
+      (of-cond (f .kind) 5 _ _ (k .state)
+      (of-cond (f .kind) 6 _ _ (k .reading)
+      (of-cond (f .kind) 7 _ _ (k .block)
+      (k .round)))))))
+
+module _ (suppliers : ℕ) (f : Fields) where
+  -- the day of a kind that uses one
+  day-first : (unused : Bool) → isDay (f .day) && unused ≡ true → f .day < endOfDays
+  unfolding isDay
+  day-first unused h = ltb-true _ _ (both (ltb (f .day) endOfDays) unused h .0)
+
+  a-quantity : isQuantity (f .value) ≡ true → (1 ≤ f .value) × (f .value ≤ mostQuantity)
   unfolding isQuantity
-  quantity-value t =
-      let k = day-value (noHour f) (within 1 mostQuantity (f .value)) t in
-      (k .0, within-low 1 mostQuantity (f .value) (k .1), within-high 1 mostQuantity (f .value) (k .1))
+  a-quantity h = (within-low 1 mostQuantity (f .value) h, within-high 1 mostQuantity (f .value) h)
 
   pub ranged : (m : Message) → understood suppliers f ≡ some m → Ranged suppliers (m .body)
-  ranged =
-      made suppliers f (Ranged suppliers) record {
-        link = λ _ t. quantity-value t;
-        stop = λ _ t. day-value (noHour f) (eqb (f .value) 0) t .0;
-        quantity = λ _ t. quantity-value t;
-        holder = λ _ t. let k = day-value (noElement f) (leb (f .value) suppliers) t in (k .0, leb-true _ _ (k .1));
-        state = λ _ t. let k = day-value (noElement f) (within 1 4 (f .value)) t in
-            (k .0, within-low 1 4 (f .value) (k .1), within-high 1 4 (f .value) (k .1));
-        reading = λ _ t.
-            let k = day-value (eqb (f .element) 0) (ltb (f .hour) hourPlaces && leb (f .value) mostEnergy) t in
-            let l = both (ltb (f .hour) hourPlaces) (leb (f .value) mostEnergy) (k .1) in
-            (k .0, ltb-true _ _ (l .0), leb-true _ _ (l .1));
-        block = λ _ t. leb-true _ _ (both (noElement f) (leb (f .value) 1)
-            (both (eqb (f .day) 0) (noElement f && leb (f .value) 1) t .1) .1);
+  unfolding fieldsRight valueFits within
+  ranged m e =
+      let u = understands suppliers f m e in
+      let right = u .fields in
+      let fits = u .value in
+      rw (u .body) (by-kind f (Ranged suppliers) record {
+        link = λ k. let q = a-quantity (rw k at fits) in (day-first _ (rw k at right), q .0, q .1);
+        stop = λ k. day-first _ (rw k at right);
+        quantity = λ k. let q = a-quantity (rw k at fits) in (day-first _ (rw k at right), q .0, q .1);
+        holder = λ k. (day-first _ (rw k at right), leb-true _ _ (rw k at fits));
+        state = λ k. let v = rw k at fits in
+            (day-first _ (rw k at right), within-low newState closed (f .value) v, within-high newState closed (f .value) v);
+        reading = λ k. let r = rw k at right in
+            let h = both (eqb (f .element) 0) (ltb (f .hour) hourPlaces) (both (isDay (f .day)) _ r .1) .1 in
+            (day-first _ r, ltb-true _ _ h, leb-true _ _ (rw k at fits));
+        block = λ k. leb-true _ _ (rw k at fits);
         round = tt;
-      }
+      })
 
   -- a message is about the point that its fields name, or about none
   pub about : (m : Message) → understood suppliers f ≡ some m → (p : ℕ) → pointOf (m .body) ≡ some p → p ≡ f .point
   unfolding pointOf
-  about =
-      made suppliers f (λ b. (p : ℕ) → pointOf b ≡ some p → p ≡ f .point) record {
-        link = λ _ t p e. cc;
-        stop = λ _ t p e. cc;
-        quantity = λ _ t p e. cc;
-        holder = λ _ t p e. cc;
-        state = λ _ t p e. cc;
-        reading = λ _ t p e. cc;
-        block = λ _ t p e. cc;
+  about m e =
+      rw (understands suppliers f m e .body) (by-kind f (λ b. (p : ℕ) → pointOf b ≡ some p → p ≡ f .point) record {
+        link = λ _ p e. cc;
+        stop = λ _ p e. cc;
+        quantity = λ _ p e. cc;
+        holder = λ _ p e. cc;
+        state = λ _ p e. cc;
+        reading = λ _ p e. cc;
+        block = λ _ p e. cc;
         round = λ p e. let z : _≡_ {A = ℕ} 0 1 = cc in absurd (omega arith);
-      }
+      })
 
   -- kind 8 is a round
   pub round-body : f .kind ≡ 8 → (m : Message) → understood suppliers f ≡ some m → m .body ≡ Round
-  round-body e =
-      made suppliers f (λ b. b ≡ Round) record {
-        link = λ k t. absurd (omega arith);
-        stop = λ k t. absurd (omega arith);
-        quantity = λ k t. absurd (omega arith);
-        holder = λ k t. absurd (omega arith);
-        state = λ k t. absurd (omega arith);
-        reading = λ k t. absurd (omega arith);
-        block = λ k t. absurd (omega arith);
-        round = refl;
-      }
+  unfolding bodyNamed
+  round-body k m e = understands suppliers f m e .body ∙ rw k
 
 -- ---- questions 7, 8 and a body's own, as facts
 

@@ -1,6 +1,6 @@
 -- Question 6: from the fields as they came to a message. "Is the kind 1 to 8 and is every field in range, unused ones 0?"
 use Prim.Native.Nat.{ℕ}
-use mathlib.Core.Bool.{Bool, true, false, _&&_, cond}
+use mathlib.Core.Bool.{Bool, true, false, _&&_, _||_, cond}
 use mathlib.Core.Option.{Option, none, some}
 use lib.Dec.{leb, ltb, eqb}
 use Rattle.rules.specs.declared.Fields.{Fields}
@@ -35,22 +35,40 @@ noElement f = eqb (f .element) 0 && noHour f
 unfoldable pub isQuantity : (quantity : ℕ) → Bool
 isQuantity n = within 1 mostQuantity n
 
--- "Kinds 1 to 3 use point, element and day; 4 and 5 point and day; 6 point, day and hour; 7 the point. The value is the quantity, holder,
--- state, Wh or block mark; kinds 2 and 8 have none."
+-- "Kinds 1 to 3 use point, element and day; 4 and 5 point and day; 6 point, day and hour; 7 the point.": the days and hours that a kind
+-- uses are in range, and what it does not use is 0
+unfoldable pub fieldsRight : Fields → Bool
+fieldsRight f =
+    cond (within 1 3 (f .kind)) (isDay (f .day) && noHour f)
+    (cond (within 4 5 (f .kind)) (isDay (f .day) && noElement f)
+    (cond (eqb (f .kind) 6) (isDay (f .day) && (eqb (f .element) 0 && ltb (f .hour) hourPlaces))
+    (cond (eqb (f .kind) 7) (eqb (f .day) 0 && noElement f)
+    (eqb (f .kind) 8 && (eqb (f .point) 0 && (noElement f && eqb (f .day) 0))))))
+
+-- "The value is the quantity, holder, state, Wh or block mark; kinds 2 and 8 have none.": it is in the kind's range, or 0
+unfoldable pub valueFits : (suppliers kind value : ℕ) → Bool
+valueFits suppliers kind value =
+    cond (eqb kind 1 || eqb kind 3) (isQuantity value)
+    (cond (eqb kind 4) (leb value suppliers)
+    (cond (eqb kind 5) (within newState closed value)
+    (cond (eqb kind 6) (leb value mostEnergy)
+    (cond (eqb kind 7) (leb value 1)
+    (eqb value 0)))))
+
+-- the body that the kind number names, of eight, with the fields that it uses
+unfoldable pub bodyNamed : Fields → Body
+bodyNamed f =
+    cond (eqb (f .kind) 1) (Link (f .point) (f .element) (f .day) (f .value))
+    (cond (eqb (f .kind) 2) (Stop (f .point) (f .element) (f .day))
+    (cond (eqb (f .kind) 3) (Quantity (f .point) (f .element) (f .day) (f .value))
+    (cond (eqb (f .kind) 4) (Holder (f .point) (f .day) (f .value))
+    (cond (eqb (f .kind) 5) (State (f .point) (f .day) (f .value))
+    (cond (eqb (f .kind) 6) (Reading (f .point) (f .day) (f .hour) (f .value))
+    (cond (eqb (f .kind) 7) (Block (f .point) (f .value))
+    Round))))))
+
 unfoldable pub bodyOf : (suppliers : ℕ) → Fields → Option Body
-bodyOf suppliers f =
-    cond (eqb (f .kind) 1) (when (isDay (f .day) && (noHour f && isQuantity (f .value))) (Link (f .point) (f .element) (f .day) (f .value)))
-    (cond (eqb (f .kind) 2) (when (isDay (f .day) && (noHour f && eqb (f .value) 0)) (Stop (f .point) (f .element) (f .day)))
-    (cond (eqb (f .kind) 3)
-    (when (isDay (f .day) && (noHour f && isQuantity (f .value))) (Quantity (f .point) (f .element) (f .day) (f .value)))
-    (cond (eqb (f .kind) 4) (when (isDay (f .day) && (noElement f && leb (f .value) suppliers)) (Holder (f .point) (f .day) (f .value)))
-    (cond (eqb (f .kind) 5)
-    (when (isDay (f .day) && (noElement f && within newState closed (f .value))) (State (f .point) (f .day) (f .value)))
-    (cond (eqb (f .kind) 6)
-    (when (isDay (f .day) && (eqb (f .element) 0 && (ltb (f .hour) hourPlaces && leb (f .value) mostEnergy)))
-    (Reading (f .point) (f .day) (f .hour) (f .value)))
-    (cond (eqb (f .kind) 7) (when (eqb (f .day) 0 && (noElement f && leb (f .value) 1)) (Block (f .point) (f .value)))
-    (when (eqb (f .kind) 8 && (eqb (f .point) 0 && (noElement f && (eqb (f .day) 0 && eqb (f .value) 0)))) Round)))))))
+bodyOf suppliers f = when (fieldsRight f && valueFits suppliers (f .kind) (f .value)) (bodyNamed f)
 
 unfoldable pub both : (received : ℕ) → Option Sender → Option Body → Option Message
 both received none b = none

@@ -246,7 +246,16 @@ pub fn message(
     let Understood::Passed(m) = understood else {
         return refused(Answer::OutOfRange, book);
     };
-    let decision = decide(book, element_data, links, holders, states, blocks, m);
+    let decision = decide(
+        book,
+        element_data,
+        links,
+        holders,
+        states,
+        blocks,
+        fields,
+        m,
+    );
     if number(decision) != 0 {
         return refused(decision, book);
     }

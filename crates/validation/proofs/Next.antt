@@ -15,7 +15,7 @@ use Rattle.rules.specs.World.{Opening, Tables, World}
 use Rattle.rules.specs.Messages.{question6}
 use Rattle.rules.specs.Questions.{ownNumber, ownQuestion}
 use Rattle.rules.specs.Effects.{ask, question17, question18, answerTo}
-use Rattle.validation.specs.Decided.{decided, allowed, orNext}
+use Rattle.validation.specs.Decided.{decided, asked10to12, orNext}
 
 -- an answer that is its own number, or the rest where that is 0
 abbrev pub Chain : (ℕ → ℕ) → Type 0
@@ -66,10 +66,9 @@ module _ (o : Opening) (t : Tables) where
   pub decided-refused : (m : Message) → decided o t m 0 ≢ 0 → (rest : ℕ) → decided o t m rest ≡ decided o t m 0
   decided-refused m = chain-refused (decided o t m) (decided-chain m)
 
-  pub allowed-chain : (from : Sender) (received : ℕ) (l : Place) → Chain (allowed o t from received l)
-  unfolding allowed
-  allowed-chain from received l =
-      ask-chain _ 9 refl _ (ask-chain _ 10 refl _ (ask-chain _ 11 refl _ (ask-chain _ 12 refl _ chain-end)))
+pub day-chain : (t : Tables) (from : Sender) (received : ℕ) (l : Place) → Chain (asked10to12 t from received l)
+unfolding asked10to12
+day-chain t from received l = ask-chain _ 10 refl _ (ask-chain _ 11 refl _ (ask-chain _ 12 refl _ chain-end))
 
 -- the rules' answer asks question 6 first
 pub answer-asks-6 : (w : World) (x : Option Message) (room : ℕ) → answerTo w x room ≡ ask (question6 x) 6 (answerTo w x room)

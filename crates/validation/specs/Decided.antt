@@ -1,5 +1,5 @@
 -- What questions 7 to 16 answer, as one number, what they need of the book, and the numbers that they look at.
-use Prim.Native.Nat.{ℕ, _-_, _/_, _%_, _*_, _≤_, _<_}
+use Prim.Native.Nat.{ℕ, _-_, _*_, _≤_, _<_}
 use mathlib.Core.Path.{_≡_}
 use mathlib.Core.Bool.{Bool, true, not, _&&_, _||_, cond}
 use mathlib.Core.List.{List}
@@ -9,6 +9,8 @@ use Rattle.rules.specs.Whole.{Dated}
 use Rattle.rules.specs.declared.Book.{Book}
 use Rattle.rules.specs.declared.Place.{Place}
 use Rattle.rules.specs.declared.Sender.{Sender}
+use Rattle.rules.specs.declared.Fields.{Fields}
+use Rattle.rules.specs.declared.Body.{Body}
 use Rattle.rules.specs.declared.Message.{Message}
 use Rattle.rules.specs.Sizes.{endOfDays, elementSize, mostPoints, mostElements, holderSize, stateSize}
 use Rattle.rules.specs.Basics.{allIn}
@@ -17,9 +19,8 @@ use Rattle.rules.specs.Lines.{tariff}
 use Rattle.rules.specs.World.{Opening, Tables, gridCompany, energinet, isSet, tax, stateOn, notExisting, closed}
 use Rattle.rules.specs.Lent.{Lists, openingIn, tablesIn, lendData, lendRows, lendBlocks}
 use Rattle.rules.specs.Questions.{question7, question8, question9, question10, question11, question12}
-use Rattle.rules.specs.Questions.{ownNumber, ownQuestion, mayLink, inTime}
+use Rattle.rules.specs.Questions.{ownNumber, ownQuestion, inTime}
 use Rattle.rules.specs.Effects.{ask}
-use Rattle.rules.specs.Ready.{Ranged}
 use Rattle.tables.specs.Order.{LinkRows, ValueRows}
 
 -- what questions 7 to 16 look at, whatever else is lent
@@ -41,19 +42,32 @@ decided o t m rest =
 abbrev pub decidedIn : Book → Lists → Message → ℕ
 decidedIn b o m = decided (openingIn b o) (tablesIn b o) m 0
 
--- questions 9 to 12 of kinds 1 to 3, at a point, element and day; then the rest
-unfoldable pub allowed : Opening → Tables → Sender → (received : ℕ) → Place → (rest : ℕ) → ℕ
-allowed o t from received l rest =
-    ask (mayLink o t from l) 9
-    (ask (inTime from received (l .day)) 10
+-- its parts: questions 7 and 8
+unfoldable pub asked7to8 : Opening → Body → ℕ
+asked7to8 o b = ask (question7 o b) 7 (ask (question8 o b) 8 0)
+
+-- questions 10 to 16
+unfoldable pub asked10to16 : Opening → Tables → Sender → (received : ℕ) → Body → ℕ
+asked10to16 o t from received b =
+    ask (question10 from received b) 10
+    (ask (question11 t b) 11 (ask (question12 t b) 12 (ask (ownQuestion o t b) (ownNumber b) 0)))
+
+-- questions 10 to 12 of kinds 1 to 3, at a point, element and day; then the rest
+unfoldable pub asked10to12 : Tables → Sender → (received : ℕ) → Place → (rest : ℕ) → ℕ
+asked10to12 t from received l rest =
+    ask (inTime from received (l .day)) 10
     (ask (not (eqb (stateOn t (l .point) (l .day)) notExisting)) 11
-    (ask (not (eqb (stateOn t (l .point) (l .day)) closed)) 12 rest)))
+    (ask (not (eqb (stateOn t (l .point) (l .day)) closed)) 12 rest))
 
 -- the first number, or the next where the first is 0
 unfoldable pub orNext : (first next : ℕ) → ℕ
 orNext first next = cond (eqb first 0) next first
 
 -- ---- what the answer looks at
+
+-- what kinds 1 to 3 are about, as it came
+abbrev pub placeIn : Fields → Place
+placeIn f = record { point = f .point; element = f .element; day = f .day }
 
 -- may the sender link an element with that owner, kind and marks at a point with that block and holder
 unfoldable pub linkRight : Sender → (owner kind marks block holder : ℕ) → Bool
@@ -80,6 +94,12 @@ pub record Placed (b : Book) (l : Place) : Type 0 where
   pub element : l .element < b .elements
   pub day : l .day < endOfDays
 
+-- fields that question 6 has passed, and of kinds 1 to 3 questions 7 and 8 too
+pub record Known (b : Book) (f : Fields) : Type 0 where
+  pub first : 1 ≤ f .kind
+  pub last : f .kind ≤ 8
+  pub placed : f .kind ≤ 3 → Placed b (placeIn f)
+
 -- links in order, which end within the calendar
 pub record Linked (words : List ℕ) (used : ℕ) : Type 0 where
   pub rows : LinkRows words used
@@ -95,8 +115,3 @@ pub record Readable (b : Book) (elementData links holders states blocks : List �
   pub holder-rows : ValueRows holderSize holders (b .holders)
   pub state-rows : ValueRows stateSize states (b .states)
   pub block-places : length blocks ≡ b .points
-
--- a message that question 6 passed
-pub record InRanges (suppliers : ℕ) (m : Message) : Type 0 where
-  pub received : m .received < endOfDays
-  pub body : Ranged suppliers (m .body)

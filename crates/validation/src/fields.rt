@@ -1,11 +1,10 @@
-// Question 6: from raw fields, any numbers, to a message. A match over the kind number and the role decides which fields apply.
+// Question 6: from raw fields, any numbers, to a message. Matches over the role and the kind number decide who the sender is, which fields
+// apply and what the value is.
 ghost use mathlib.Core.Path.{_≡_};
 ghost use mathlib.Core.Bool.{_&&_};
-ghost use lib.Dec.{leb, ltb, eqb};
-ghost use Rattle.rules.specs.Basics.{within, when};
-ghost use Rattle.rules.specs.Sizes.{hourPlaces, mostEnergy};
-ghost use Rattle.rules.specs.World.{newState, closed};
-ghost use Rattle.rules.specs.Messages.{senderOf, bodyOf, both, understood, question6, isDay, noHour, noElement, isQuantity};
+ghost use lib.Dec.{eqb};
+ghost use Rattle.rules.specs.Basics.{when};
+ghost use Rattle.rules.specs.Messages.{isDay, senderOf, fieldsRight, valueFits, bodyNamed, bodyOf, both, understood, question6};
 ghost use Rattle.rules.specs.Effects.{ask};
 ghost use Rattle.rules.specs.declared.Body.{Body};
 ghost use Rattle.validation.specs.Found.{foundSender, foundBody, foundMessage, understoodNumber};
@@ -77,6 +76,13 @@ pub fn sender_of(suppliers: u64, f: Fields) -> FoundSender
     }
 }
 
+// Two tests, both of which hold.
+fn both_hold(first: bool, second: bool) -> bool
+    ensures { λ r. ⌜ r ≡ first && second ⌝ }
+{
+    if first { second } else { false }
+}
+
 // Three tests, all of which hold.
 pub fn all_three(first: bool, second: bool, third: bool) -> bool
     ensures { λ r. ⌜ r ≡ first && (second && third) ⌝ }
@@ -88,177 +94,151 @@ pub fn all_three(first: bool, second: bool, third: bool) -> bool
     }
 }
 
-// A body where three tests hold.
-fn body_when(first: bool, second: bool, third: bool, body: Body) -> FoundBody
-    ensures { λ r. ⌜ foundBody r ≡ when (first && (second && third)) body ⌝ }
+// Which fields a kind uses: the days and hours that it uses are in range, and what it does not use is 0.
+fn fields_right(f: Fields) -> bool
+    ensures { λ r. ⌜ r ≡ fieldsRight f ⌝ }
 {
-    if all_three(first, second, third) {
-        FoundBody::Known(body)
-    } else {
-        FoundBody::Unknown
+    let kind = f.kind;
+    match kind {
+        // point, element and day
+        1..=3 => both_hold(is_day(f.day), f.hour == 0),
+        // point and day
+        4 | 5 => both_hold(is_day(f.day), both_zero(f.element, f.hour)),
+        // point, day and hour
+        6 => all_three(is_day(f.day), f.element == 0, f.hour < HOUR_PLACES as u64),
+        // the point
+        7 => both_hold(f.day == 0, both_zero(f.element, f.hour)),
+        // none
+        8 => all_three(f.point == 0, both_zero(f.element, f.hour), f.day == 0),
+        _ => false,
+    }
+}
+
+// What a kind's value is: it is in range; kinds 2 and 8 have none.
+fn value_fits(suppliers: u64, kind: u64, value: u64) -> bool
+    ensures { λ r. ⌜ r ≡ valueFits suppliers kind value ⌝ }
+{
+    match kind {
+        // a quantity
+        1 | 3 => is_within(1, MOST_QUANTITY, value),
+        // a holder
+        4 => value <= suppliers,
+        // a state
+        5 => is_within(NEW, CLOSED, value),
+        // Wh
+        6 => value <= MOST_ENERGY,
+        // a block mark
+        7 => value <= 1,
+        _ => value == 0,
     }
 }
 
 // Kind 1.
-fn link_of(f: Fields) -> FoundBody
-    ensures { λ r. ⌜ foundBody r ≡ when (isDay (f .day) && (noHour f && isQuantity (f .value)))
-        (Body.Link (f .point) (f .element) (f .day) (f .value)) ⌝ }
+fn link_of(f: Fields) -> Body
+    ensures { λ r. ⌜ r ≡ Body.Link (f .point) (f .element) (f .day) (f .value) ⌝ }
 {
-    body_when(
-        is_day(f.day),
-        f.hour == 0,
-        is_within(1, MOST_QUANTITY, f.value),
-        Body::Link {
-            point: f.point,
-            element: f.element,
-            day: f.day,
-            quantity: f.value,
-        },
-    )
+    Body::Link {
+        point: f.point,
+        element: f.element,
+        day: f.day,
+        quantity: f.value,
+    }
 }
 
 // Kind 2.
-fn stop_of(f: Fields) -> FoundBody
-    ensures { λ r. ⌜ foundBody r ≡ when (isDay (f .day) && (noHour f && eqb (f .value) 0))
-        (Body.Stop (f .point) (f .element) (f .day)) ⌝ }
+fn stop_of(f: Fields) -> Body
+    ensures { λ r. ⌜ r ≡ Body.Stop (f .point) (f .element) (f .day) ⌝ }
 {
-    body_when(
-        is_day(f.day),
-        f.hour == 0,
-        f.value == 0,
-        Body::Stop {
-            point: f.point,
-            element: f.element,
-            day: f.day,
-        },
-    )
+    Body::Stop {
+        point: f.point,
+        element: f.element,
+        day: f.day,
+    }
 }
 
 // Kind 3.
-fn quantity_of(f: Fields) -> FoundBody
-    ensures { λ r. ⌜ foundBody r ≡ when (isDay (f .day) && (noHour f && isQuantity (f .value)))
-        (Body.Quantity (f .point) (f .element) (f .day) (f .value)) ⌝ }
+fn quantity_of(f: Fields) -> Body
+    ensures { λ r. ⌜ r ≡ Body.Quantity (f .point) (f .element) (f .day) (f .value) ⌝ }
 {
-    body_when(
-        is_day(f.day),
-        f.hour == 0,
-        is_within(1, MOST_QUANTITY, f.value),
-        Body::Quantity {
-            point: f.point,
-            element: f.element,
-            day: f.day,
-            quantity: f.value,
-        },
-    )
+    Body::Quantity {
+        point: f.point,
+        element: f.element,
+        day: f.day,
+        quantity: f.value,
+    }
 }
 
 // Kind 4.
-fn holder_of(suppliers: u64, f: Fields) -> FoundBody
-    ensures { λ r. ⌜ foundBody r ≡ when (isDay (f .day) && (noElement f && leb (f .value) suppliers))
-        (Body.Holder (f .point) (f .day) (f .value)) ⌝ }
+fn holder_of(f: Fields) -> Body
+    ensures { λ r. ⌜ r ≡ Body.Holder (f .point) (f .day) (f .value) ⌝ }
 {
-    body_when(
-        is_day(f.day),
-        both_zero(f.element, f.hour),
-        f.value <= suppliers,
-        Body::Holder {
-            point: f.point,
-            day: f.day,
-            holder: f.value,
-        },
-    )
+    Body::Holder {
+        point: f.point,
+        day: f.day,
+        holder: f.value,
+    }
 }
 
 // Kind 5.
-fn state_of(f: Fields) -> FoundBody
-    ensures { λ r. ⌜ foundBody r ≡ when (isDay (f .day) && (noElement f && within newState closed (f .value)))
-        (Body.State (f .point) (f .day) (f .value)) ⌝ }
+fn state_of(f: Fields) -> Body
+    ensures { λ r. ⌜ r ≡ Body.State (f .point) (f .day) (f .value) ⌝ }
 {
-    body_when(
-        is_day(f.day),
-        both_zero(f.element, f.hour),
-        is_within(NEW, CLOSED, f.value),
-        Body::State {
-            point: f.point,
-            day: f.day,
-            state: f.value,
-        },
-    )
-}
-
-// The hour and the Wh of a reading.
-fn is_reading(hour: u64, energy: u64) -> bool
-    ensures { λ r. ⌜ r ≡ ltb hour hourPlaces && leb energy mostEnergy ⌝ }
-{
-    if hour < HOUR_PLACES as u64 {
-        energy <= MOST_ENERGY
-    } else {
-        false
+    Body::State {
+        point: f.point,
+        day: f.day,
+        state: f.value,
     }
 }
 
 // Kind 6.
-fn reading_of(f: Fields) -> FoundBody
-    ensures { λ r. ⌜ foundBody r ≡ when (isDay (f .day) && (eqb (f .element) 0 && (ltb (f .hour) hourPlaces && leb (f .value) mostEnergy)))
-        (Body.Reading (f .point) (f .day) (f .hour) (f .value)) ⌝ }
+fn reading_of(f: Fields) -> Body
+    ensures { λ r. ⌜ r ≡ Body.Reading (f .point) (f .day) (f .hour) (f .value) ⌝ }
 {
-    body_when(
-        is_day(f.day),
-        f.element == 0,
-        is_reading(f.hour, f.value),
-        Body::Reading {
-            point: f.point,
-            day: f.day,
-            hour: f.hour,
-            energy: f.value,
-        },
-    )
+    Body::Reading {
+        point: f.point,
+        day: f.day,
+        hour: f.hour,
+        energy: f.value,
+    }
 }
 
 // Kind 7.
-fn block_of(f: Fields) -> FoundBody
-    ensures { λ r. ⌜ foundBody r ≡ when (eqb (f .day) 0 && (noElement f && leb (f .value) 1))
-        (Body.Block (f .point) (f .value)) ⌝ }
+fn block_of(f: Fields) -> Body
+    ensures { λ r. ⌜ r ≡ Body.Block (f .point) (f .value) ⌝ }
 {
-    body_when(
-        f.day == 0,
-        both_zero(f.element, f.hour),
-        f.value <= 1,
-        Body::Block {
-            point: f.point,
-            blocked: f.value,
-        },
-    )
+    Body::Block {
+        point: f.point,
+        blocked: f.value,
+    }
 }
 
-// Kind 8.
-fn round_of(f: Fields) -> FoundBody
-    ensures { λ r. ⌜ foundBody r ≡ when (eqb (f .point) 0 && (noElement f && (eqb (f .day) 0 && eqb (f .value) 0)))
-        Body.Round ⌝ }
-{
-    body_when(
-        f.point == 0,
-        both_zero(f.element, f.hour),
-        both_zero(f.day, f.value),
-        Body::Round,
-    )
-}
-
-// The body that the kind number asks for.
-pub fn body_of(suppliers: u64, f: Fields) -> FoundBody
-    ensures { λ r. ⌜ foundBody r ≡ bodyOf suppliers f ⌝ }
+// The body that a kind number names.
+fn body_named(f: Fields) -> Body
+    ensures { λ r. ⌜ r ≡ bodyNamed f ⌝ }
 {
     let kind = f.kind;
     match kind {
         1 => link_of(f),
         2 => stop_of(f),
         3 => quantity_of(f),
-        4 => holder_of(suppliers, f),
+        4 => holder_of(f),
         5 => state_of(f),
         6 => reading_of(f),
         7 => block_of(f),
-        8 => round_of(f),
-        _ => FoundBody::Unknown,
+        _ => Body::Round,
+    }
+}
+
+// A body whose fields are in range.
+pub fn body_of(suppliers: u64, f: Fields) -> FoundBody
+    ensures { λ r. ⌜ foundBody r ≡ bodyOf suppliers f ⌝ }
+{
+    let right = fields_right(f);
+    let fits = value_fits(suppliers, f.kind, f.value);
+    if both_hold(right, fits) {
+        FoundBody::Known(body_named(f))
+    } else {
+        FoundBody::Unknown
     }
 }
 

@@ -1,22 +1,24 @@
-// Questions 7 to 16 of a message: the first that says no. A match over the body and the sender decides which questions apply.
+// Questions 7 to 16 of a message: the first that says no. Matches over the kind number decide which of them apply and which sender may.
 ghost use mathlib.Core.Path.{_≡_};
 ghost use mathlib.Core.Bool.{not, _&&_, _||_};
-ghost use Prim.Native.Nat.{ℕ, _+_, _*_, _/_, _%_, _≤_, _<_};
+ghost use mathlib.Core.Option.{some};
+ghost use Prim.Native.Nat.{ℕ, _+_, _*_, _≤_, _<_};
 ghost use lib.ListN.{length};
 ghost use lib.Dec.{leb, ltb, eqb};
 ghost use Rattle.rules.specs.Whole.{Dated};
 ghost use Rattle.rules.specs.declared.Body.{Body};
-ghost use Rattle.rules.specs.Sizes.{endOfDays, elementSize, gridDaysBack, holderSize, stateSize};
+ghost use Rattle.rules.specs.Sizes.{endOfDays, elementSize, gridDaysBack, holderSize, mostElements, stateSize};
 ghost use Rattle.rules.specs.Lines.{tariff};
 ghost use Rattle.rules.specs.World.{gridCompany, energinet, isSet, tax, notExisting, closed};
-ghost use Rattle.rules.specs.Lent.{Lists, openingIn, tablesIn, lendData, lendLinks, lendHolders, lendBlocks, was};
+ghost use Rattle.rules.specs.Lent.{Lists, openingIn, tablesIn, lendData, lendLinks, lendHolders, lendStates, lendBlocks, was};
+ghost use Rattle.rules.specs.Messages.{bodyNamed, understood};
 ghost use Rattle.rules.specs.Questions.{isGridCompany, isEnerginet, inTime, mayLink, tariffOnce};
-ghost use Rattle.rules.specs.Questions.{question13, question14, question15, question16};
+ghost use Rattle.rules.specs.Questions.{question9, question13, question14, question15, question16, ownQuestion, ownNumber};
 ghost use Rattle.rules.specs.Effects.{ask};
 ghost use Rattle.rules.specs.Answers.{numberOf};
 ghost use Rattle.tables.specs.Order.{LinkRows, ValueRows};
-ghost use Rattle.validation.specs.Decided.{asking, linkRight, decidedIn, allowed, orNext, spansDay};
-ghost use Rattle.validation.specs.Decided.{Placed, Linked, Readable, InRanges};
+ghost use Rattle.validation.specs.Decided.{asking, decidedIn, asked7to8, asked10to12, asked10to16, orNext};
+ghost use Rattle.validation.specs.Decided.{placeIn, linkRight, spansDay, Placed, Known, Linked, Readable};
 use facts::holder_on;
 use facts::month_days;
 use facts::month_first;
@@ -26,11 +28,11 @@ use pricing::kind_of;
 use pricing::marks_of;
 use pricing::owner_of;
 use rules::Answer;
-use rules::Body;
 use rules::Book;
 use rules::CLOSED;
 use rules::DAYS_AHEAD;
 use rules::ENERGINET;
+use rules::Fields;
 use rules::GRID_COMPANY;
 use rules::GRID_DAYS_BACK;
 use rules::Message;
@@ -176,13 +178,14 @@ pub fn number(answer: Answer) -> u64
 
 // ---- questions 7 to 16 of a well-formed book
 
-fn place_at(point: u64, element: u64, day: u64) -> Place
-    ensures { λ r. ⌜ r ≡ record { point = point; element = element; day = day } ⌝ }
+// What kinds 1 to 3 are about.
+fn place_of(f: Fields) -> Place
+    ensures { λ r. ⌜ r ≡ placeIn f ⌝ }
 {
     Place {
-        point,
-        element,
-        day,
+        point: f.point,
+        element: f.element,
+        day: f.day,
     }
 }
 
@@ -243,8 +246,39 @@ fn tariff_once(element_data: &[u8], element: u64, quantity: u64) -> Answer
     }
 }
 
+// Questions 7 and 8 of kinds 1 to 3.
+fn ask_place(book: Book, element_data: &[u8], f: Fields) -> Answer
+    requires { ⌜ (1 ≤ f .kind) × (f .kind ≤ 3) ⌝ }
+    requires { ⌜ (book .elements ≤ mostElements) × (length (now element_data) ≡ book .elements * elementSize) ⌝ }
+    ensures { λ r. ⌜ ((o : Lists) → numberOf r ≡ asked7to8 (openingIn book (lendData (was element_data) o)) (bodyNamed f)) ⌝ }
+{
+    let known = ask_pair(book, f.point, f.element);
+    if number(known) == 0 {
+        if f.kind == 1 {
+            tariff_once(element_data, f.element, f.value)
+        } else {
+            Answer::Accepted
+        }
+    } else {
+        known
+    }
+}
+
+// Questions 7 and 8: is the point in the book, except for a round; of kinds 1 to 3 the element too.
+fn ask_known(book: Book, element_data: &[u8], f: Fields) -> Answer
+    requires { ⌜ (book .elements ≤ mostElements) × (length (now element_data) ≡ book .elements * elementSize) ⌝ }
+    ensures { λ r. ⌜ ((o : Lists) → numberOf r ≡ asked7to8 (openingIn book (lendData (was element_data) o)) (bodyNamed f)) ⌝ }
+{
+    let kind = f.kind;
+    match kind {
+        1..=3 => ask_place(book, element_data, f),
+        4..=7 => ask_point(book, f.point),
+        _ => Answer::Accepted,
+    }
+}
+
 // Question 9 of kinds 1 to 3.
-fn is_permitted(
+fn may_link_at(
     book: Book,
     element_data: &[u8],
     holders: &[u64],
@@ -270,32 +304,41 @@ fn is_permitted(
     )
 }
 
-// Questions 9 to 12 of kinds 1 to 3.
-fn is_allowed(
+// Question 9: may the sender.
+fn is_permitted(
     book: Book,
     element_data: &[u8],
     holders: &[u64],
-    states: &[u64],
     blocks: &[u8],
-    m: Message,
-    place: Place,
-) -> Answer
-    requires { ⌜ Placed book place ⌝ }
+    sender: Sender,
+    f: Fields,
+) -> bool
+    requires { ⌜ Known book f ⌝ }
     requires { ⌜ (length (now element_data) ≡ book .elements * elementSize) × (length (now blocks) ≡ book .points) ⌝ }
-    requires { ⌜ (ValueRows holderSize (now holders) (book .holders)) × (ValueRows stateSize (now states) (book .states)) ⌝ }
-    requires { ⌜ m .received < endOfDays ⌝ }
-    ensures { λ r. ⌜ ((o : Lists) → let t = asking (was element_data) (o .links) (was holders) (was states) (was blocks) o in
-        numberOf r ≡ allowed (openingIn book t) (tablesIn book t) (m .sender) (m .received) place 0) ⌝ }
+    requires { ⌜ ValueRows holderSize (now holders) (book .holders) ⌝ }
+    ensures { λ r. ⌜ ((o : Lists) → let t = lendData (was element_data) (lendHolders (was holders) (lendBlocks (was blocks) o)) in
+        r ≡ question9 (openingIn book t) (tablesIn book t) sender (bodyNamed f)) ⌝ }
 {
-    let sender = m.sender;
-    if is_permitted(book, element_data, holders, blocks, sender, place) {
-        if in_time(sender, m.received, place.day) {
-            state_allows(state_on(book, states, place.point, place.day))
-        } else {
-            Answer::OutOfTime
-        }
+    let kind = f.kind;
+    match kind {
+        1..=3 => may_link_at(book, element_data, holders, blocks, sender, place_of(f)),
+        5..=7 => is_grid_company(sender),
+        4 | 8 => is_energinet(sender),
+        _ => false,
+    }
+}
+
+// Questions 10 to 12 of kinds 1 to 3: the day is in time, and the point exists that day and is other than closed.
+fn ask_day(book: Book, states: &[u64], sender: Sender, received: u64, place: Place) -> Answer
+    requires { ⌜ Placed book place ⌝ }
+    requires { ⌜ ValueRows stateSize (now states) (book .states) ⌝ }
+    requires { ⌜ received < endOfDays ⌝ }
+    ensures { λ r. ⌜ ((o : Lists) → numberOf r ≡ asked10to12 (tablesIn book (lendStates (was states) o)) sender received place 0) ⌝ }
+{
+    if in_time(sender, received, place.day) {
+        state_allows(state_on(book, states, place.point, place.day))
     } else {
-        Answer::NotPermitted
+        Answer::OutOfTime
     }
 }
 
@@ -382,125 +425,51 @@ fn in_month(book: Book, day: u64) -> Answer
     }
 }
 
-// Questions 7 and 9 of kinds 4 to 7: the point is in the book, and the sender may.
-fn is_sent(book: Book, point: u64, may: bool) -> Answer
-    ensures { λ r. ⌜ numberOf r ≡ ask (ltb point (book .points)) 7 (ask may 9 0) ⌝ }
+// Questions 13 to 15: the one of kinds 1 to 3 each.
+fn ask_own(book: Book, element_data: &[u8], links: &[u64], f: Fields) -> Answer
+    requires { ⌜ (1 ≤ f .kind) × (f .kind ≤ 3) × Placed book (placeIn f) ⌝ }
+    requires { ⌜ length (now element_data) ≡ book .elements * elementSize ⌝ }
+    requires { ⌜ Linked (now links) (book .periods) ⌝ }
+    ensures { λ r. ⌜ ((o : Lists) → let t = lendData (was element_data) (lendLinks (was links) o) in
+        numberOf r ≡ ask (ownQuestion (openingIn book t) (tablesIn book t) (bodyNamed f)) (ownNumber (bodyNamed f)) 0) ⌝ }
 {
-    if point < book.points {
-        if may {
-            Answer::Accepted
-        } else {
-            Answer::NotPermitted
-        }
-    } else {
-        Answer::UnknownPoint
+    let kind = f.kind;
+    match kind {
+        1 => is_free(book, links, place_of(f)),
+        2 => can_stop(book, links, place_of(f)),
+        _ => can_change(book, element_data, links, place_of(f)),
     }
 }
 
-// Questions 7 to 13 of a link.
-fn decide_link(
+// Questions 10 to 16: of kinds 1 to 3 the day and the one of their own, of a reading the month.
+fn ask_rest(
     book: Book,
     element_data: &[u8],
     links: &[u64],
-    holders: &[u64],
     states: &[u64],
-    blocks: &[u8],
-    m: Message,
-    at: Place,
-    quantity: u64,
+    sender: Sender,
+    f: Fields,
 ) -> Answer
-    requires { ⌜ Readable book (now element_data) (now links) (now holders) (now states) (now blocks) ⌝ }
-    requires { ⌜ (m .received < endOfDays) × (at .day < endOfDays) ⌝ }
-    requires { ⌜ m .body ≡ Body.Link (at .point) (at .element) (at .day) quantity ⌝ }
-    ensures { λ r. ⌜ ((o : Lists) → numberOf r
-        ≡ decidedIn book (asking (was element_data) (was links) (was holders) (was states) (was blocks) o) m) ⌝ }
-{
-    let known = ask_pair(book, at.point, at.element);
-    if number(known) == 0 {
-        let once = tariff_once(element_data, at.element, quantity);
-        let allowed = is_allowed(book, element_data, holders, states, blocks, m, at);
-        first_no(once, first_no(allowed, is_free(book, links, at)))
-    } else {
-        known
-    }
-}
-
-// Questions 7 to 14 of a stop.
-fn decide_stop(
-    book: Book,
-    element_data: &[u8],
-    links: &[u64],
-    holders: &[u64],
-    states: &[u64],
-    blocks: &[u8],
-    m: Message,
-    at: Place,
-) -> Answer
-    requires { ⌜ Readable book (now element_data) (now links) (now holders) (now states) (now blocks) ⌝ }
-    requires { ⌜ (m .received < endOfDays) × (at .day < endOfDays) ⌝ }
-    requires { ⌜ m .body ≡ Body.Stop (at .point) (at .element) (at .day) ⌝ }
-    ensures { λ r. ⌜ ((o : Lists) → numberOf r
-        ≡ decidedIn book (asking (was element_data) (was links) (was holders) (was states) (was blocks) o) m) ⌝ }
-{
-    let known = ask_pair(book, at.point, at.element);
-    if number(known) == 0 {
-        let allowed = is_allowed(book, element_data, holders, states, blocks, m, at);
-        first_no(allowed, can_stop(book, links, at))
-    } else {
-        known
-    }
-}
-
-// Questions 7 to 15 of a quantity.
-fn decide_quantity(
-    book: Book,
-    element_data: &[u8],
-    links: &[u64],
-    holders: &[u64],
-    states: &[u64],
-    blocks: &[u8],
-    m: Message,
-    at: Place,
-) -> Answer
-    requires { ⌜ Readable book (now element_data) (now links) (now holders) (now states) (now blocks) ⌝ }
-    requires { ⌜ (m .received < endOfDays) × (at .day < endOfDays) ⌝ }
-    requires { ⌜ ((quantity : ℕ) × (m .body ≡ Body.Quantity (at .point) (at .element) (at .day) quantity)) ⌝ }
-    ensures { λ r. ⌜ ((o : Lists) → numberOf r
-        ≡ decidedIn book (asking (was element_data) (was links) (was holders) (was states) (was blocks) o) m) ⌝ }
-{
-    let known = ask_pair(book, at.point, at.element);
-    if number(known) == 0 {
-        let allowed = is_allowed(book, element_data, holders, states, blocks, m, at);
-        first_no(allowed, can_change(book, element_data, links, at))
-    } else {
-        known
-    }
-}
-
-// Questions 7, 9 and 16 of a reading.
-fn decide_reading(book: Book, sender: Sender, point: u64, day: u64) -> Answer
     requires { ⌜ Dated book ⌝ }
-    ensures { λ r. ⌜ ((o : Lists) → numberOf r
-        ≡ orNext (ask (ltb point (book .points)) 7 (ask (isGridCompany sender) 9 0)) (ask (question16 (openingIn book o) day) 16 0)) ⌝ }
+    requires { ⌜ Known book f × (f .received < endOfDays) ⌝ }
+    requires { ⌜ length (now element_data) ≡ book .elements * elementSize ⌝ }
+    requires { ⌜ (Linked (now links) (book .periods)) × (ValueRows stateSize (now states) (book .states)) ⌝ }
+    ensures { λ r. ⌜ ((o : Lists) → let t = lendData (was element_data) (lendLinks (was links) (lendStates (was states) o)) in
+        numberOf r ≡ asked10to16 (openingIn book t) (tablesIn book t) sender (f .received) (bodyNamed f)) ⌝ }
 {
-    first_no(
-        is_sent(book, point, is_grid_company(sender)),
-        in_month(book, day),
-    )
-}
-
-// Question 9 of a round.
-fn decide_round(sender: Sender) -> Answer
-    ensures { λ r. ⌜ numberOf r ≡ ask (isEnerginet sender) 9 0 ⌝ }
-{
-    if is_energinet(sender) {
-        Answer::Accepted
-    } else {
-        Answer::NotPermitted
+    let kind = f.kind;
+    match kind {
+        1..=3 => {
+            let day = ask_day(book, states, sender, f.received, place_of(f));
+            let own = ask_own(book, element_data, links, f);
+            first_no(day, own)
+        }
+        6 => in_month(book, f.day),
+        _ => Answer::Accepted,
     }
 }
 
-// Questions 7 to 16 of a message, in order: the first that says no.
+// Questions 7 to 16 of a message, in order: the first that says no. The fields are those that question 6 has found the message in.
 pub fn decide(
     book: Book,
     element_data: &[u8],
@@ -508,56 +477,23 @@ pub fn decide(
     holders: &[u64],
     states: &[u64],
     blocks: &[u8],
+    f: Fields,
     m: Message,
 ) -> Answer
     requires { ⌜ Readable book (now element_data) (now links) (now holders) (now states) (now blocks) ⌝ }
-    requires { ⌜ InRanges (book .suppliers) m ⌝ }
+    requires { ⌜ understood (book .suppliers) f ≡ some m ⌝ }
     ensures { λ r. ⌜ ((o : Lists) → numberOf r
         ≡ decidedIn book (asking (was element_data) (was links) (was holders) (was states) (was blocks) o) m) ⌝ }
 {
     let sender = m.sender;
-    let body = m.body;
-    match body {
-        Body::Link {
-            point,
-            element,
-            day,
-            quantity,
-        } => {
-            let at = place_at(point, element, day);
-            decide_link(
-                book,
-                element_data,
-                links,
-                holders,
-                states,
-                blocks,
-                m,
-                at,
-                quantity,
-            )
+    let known = ask_known(book, element_data, f);
+    if number(known) == 0 {
+        if is_permitted(book, element_data, holders, blocks, sender, f) {
+            ask_rest(book, element_data, links, states, sender, f)
+        } else {
+            Answer::NotPermitted
         }
-        Body::Stop {
-            point,
-            element,
-            day,
-        } => {
-            let at = place_at(point, element, day);
-            decide_stop(book, element_data, links, holders, states, blocks, m, at)
-        }
-        Body::Quantity {
-            point,
-            element,
-            day,
-            ..
-        } => {
-            let at = place_at(point, element, day);
-            decide_quantity(book, element_data, links, holders, states, blocks, m, at)
-        }
-        Body::Holder { point, .. } => is_sent(book, point, is_energinet(sender)),
-        Body::State { point, .. } => is_sent(book, point, is_grid_company(sender)),
-        Body::Reading { point, day, .. } => decide_reading(book, sender, point, day),
-        Body::Block { point, .. } => is_sent(book, point, is_grid_company(sender)),
-        Body::Round => decide_round(sender),
+    } else {
+        known
     }
 }

@@ -9,7 +9,7 @@ use Rattle.rules.specs.Effects.{isRound}
 use Rattle.rules.specs.Lent.{Lists, worldIn}
 use Rattle.validation.specs.Found.{foundMessage}
 use Rattle.validation.specs.Decided.{decidedIn}
-use Rattle.validation.proofs.Whole.{whole-readable, in-ranges}
+use Rattle.validation.proofs.Whole.{whole-readable}
 use Rattle.settlement.specs.Replies.{ReadyIn}
 use Rattle.settlement.proofs.Stepping.{lists-whole, replied-refused, replied-applied, replied-sent, replied-whole, answer-none}
 use Rattle.settlement.proofs.Stepping.{answer-refused, passed-ready, row-no-round, round-is, block-applied}
@@ -85,10 +85,8 @@ returns c =
 decide-requires : tie.Need-decide-requires
 decide-requires c κs =
     let start : tie.Start = search in
-    let read : tie.After-understood = search in (
-      whole-readable (start .args .book) (lent start) (start .pre),
-      in-ranges (start .args .book .suppliers) (start .args .fields) _ (message-is read),
-    )
+    let read : tie.After-understood = search in
+    (whole-readable (start .args .book) (lent start) (start .pre), message-is read)
 
 number-requires : tie.Need-number-requires
 number-requires c κs = search needs

@@ -1,53 +1,83 @@
--- The numbers that were read are those that the rule looks at.
-use mathlib.Core.Path.{sym, _∙_}
-use Rattle.rules.specs.Lent.{openingIn, tablesIn, lendData, lendHolders, lendBlocks}
-use Rattle.validation.proofs.Asks.{may-is}
+-- The kind number picks the clause of the rules: who may send it.
+use mathlib.Core.Path.{_∙_}
+use mathlib.Core.Logic.{inl, inr, ⊎-elim}
+use Rattle.rules.specs.Lent.{Lists, openingIn, tablesIn, lendData, lendHolders, lendBlocks}
+use Rattle.validation.proofs.Asks.{may-placed, may-grid, may-holder, may-round, round-high, past}
+use native.Mathlib.Omega.{arith}
 use borrow.Author.Needs.{needs}
 use Rattle.validation.proofs.questions.is_permitted.Statement.{statement}
 use Rattle.validation.proofs.questions.is_permitted.Tie as tie
 
-owner-of-requires : tie.Need-owner-of-requires
-owner-of-requires c κs = search needs
+-- what is lent, and any other tables
+abbrev lent : tie.Start → Lists → Lists
+lent s o = lendData (s .args .element-data .now) (lendHolders (s .args .holders .now) (lendBlocks (s .args .blocks .now) o))
 
-kind-of-requires : tie.Need-kind-of-requires
-kind-of-requires c κs = search needs
+is-energinet-requires : tie.Need-is-energinet-requires
+is-energinet-requires c κs = search needs
 
-marks-of-requires : tie.Need-marks-of-requires
-marks-of-requires c κs = search needs
+place-of-requires : tie.Need-place-of-requires
+place-of-requires c κs = search needs
 
-shared-slice-read-may-link : tie.Need-shared-slice-read-may-link
-shared-slice-read-may-link c = search needs
+may-link-at-requires : tie.Need-may-link-at-requires
+may-link-at-requires c κs = let s : tie.Start = search in
+    (rw (c .place-of .ensures) (s .pre .0 .placed (omega arith)), (s .pre .1 .0, s .pre .1 .1))
 
-holder-on-requires : tie.Need-holder-on-requires
-holder-on-requires c κs = search needs
-
-may-link-requires : tie.Need-may-link-requires
-may-link-requires c κs = search needs
+is-grid-company-requires : tie.Need-is-grid-company-requires
+is-grid-company-requires c κs = search needs
 
 returns : tie.Need-returns
 returns c o =
-    let start : tie.Start = search in
-    let a = start .args in
-    let t = lendData (a .element-data .now) (lendHolders (a .holders .now) (lendBlocks (a .blocks .now) o)) in
-    let owner : tie.After-owner-of = search in
-    let kind : tie.After-kind-of = search in
-    let marks : tie.After-marks-of = search in
-    c .may-link .ensures
-    ∙ rw (
-      owner .owner-of .ensures (a .book) o,
-      kind .kind-of .ensures (a .book) o,
-      marks .marks-of .ensures (a .book) o,
-      c .before .holder-on .ensures t,
-    ) (sym (may-is (openingIn (a .book) t) (tablesIn (a .book) t) (a .sender) (a .place)))
+    let s : tie.Start = search in
+    let b = s .args .book in
+    let l = lent s o in
+    c .is-energinet .ensures
+    ∙ ⊎-elim (λ k. may-holder (s .args .f) (openingIn b l) (tablesIn b l) (s .args .sender) k)
+    (λ k. may-round (s .args .f) (openingIn b l) (tablesIn b l) (s .args .sender) (round-high (s .args .f) (omega arith)))
+    (c .before .match .keys1)
+
+returns-2 : tie.Need-returns-2
+returns-2 c o =
+    let s : tie.Start = search in
+    let b = s .args .book in
+    let l = lent s o in
+    c .may-link-at .ensures o ∙ rw (c .before .place-of .ensures)
+    (may-placed (s .args .f) (openingIn b l) (tablesIn b l) (s .args .sender) (s .pre .0 .first) (omega arith))
+
+returns-3 : tie.Need-returns-3
+returns-3 c o =
+    let s : tie.Start = search in
+    let b = s .args .book in
+    let l = lent s o in
+    let r : tie.At-match-rest = search in
+    let e : tie.Else2 = search in
+    c .is-grid-company .ensures
+    ∙ may-grid (s .args .f) (openingIn b l) (tablesIn b l) (s .args .sender) (past (e .if2 .left) (λ k. r .match .rest .1 (inl k)))
+    (omega arith)
+
+returns-4 : tie.Need-returns-4
+returns-4 c o =
+    let s : tie.Start = search in
+    let first = s .pre .0 .first in
+    let none : ⊥ = omega arith in
+    absurd none
+
+returns-5 : tie.Need-returns-5
+returns-5 c o =
+    let s : tie.Start = search in
+    let r : tie.At-match-rest = search in
+    let last = s .pre .0 .last in
+    absurd (r .match .rest .1 (inr (omega arith)))
 
 pub is-permitted-spec : {M : Type 1} → statement M
 is-permitted-spec =
     tie.close
     (tie.spec
-    owner-of-requires
-    kind-of-requires
-    marks-of-requires
-    shared-slice-read-may-link
-    holder-on-requires
-    may-link-requires
-    returns)
+    is-energinet-requires
+    place-of-requires
+    may-link-at-requires
+    is-grid-company-requires
+    returns
+    returns-2
+    returns-3
+    returns-4
+    returns-5)
