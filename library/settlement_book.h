@@ -50,6 +50,8 @@
  *    6  rows in use of the table of holders
  *    7  rows in use of the table of states
  *    8  kind of the next round: 1 fixing, 2 refixing, 3 any later
+ *    9  first day of the month
+ *   10  days of the month
  * A caller sets the first five for the opening and leaves all of them to the functions from then on.
  *
  * The tables that are lent with it, in this order:
@@ -63,7 +65,7 @@
  *    blocks        one a point: 1 where it is blocked
  *    lines         3 numbers a supplier and element, as below: by supplier, then element
  *    sent          the same for what the rounds so far have sent */
-#define SETTLEMENT_BOOK_SIZE 9
+#define SETTLEMENT_BOOK_SIZE 11
 #define SETTLEMENT_BOOK_ELEMENT_SIZE 3
 #define SETTLEMENT_BOOK_ELEMENT_PRICES 24
 #define SETTLEMENT_BOOK_ROWS 1024

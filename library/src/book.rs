@@ -20,7 +20,7 @@
 use crate::{Counts, Element, Fields, Line, Month, Period, Question, Record, days_in_month};
 
 /// The numbers of a book, of a message, of a line and of a record.
-const BOOK_SIZE: usize = 9;
+const BOOK_SIZE: usize = 11;
 const FIELDS_SIZE: usize = 9;
 const LINE_SIZE: usize = 3;
 const RECORD_SIZE: usize = 6;
@@ -183,6 +183,8 @@ impl Book {
                 counts.points,
                 counts.suppliers,
                 counts.elements,
+                0,
+                0,
                 0,
                 0,
                 0,

@@ -35,19 +35,10 @@ pub fn fresh_book(year: u64, month: u64, points: u64, suppliers: u64, elements: 
     requires { ⌜ InRange year month ⌝ }
     ensures { λ r. ⌜ r ≡ freshBook year month points suppliers elements ⌝ }
 {
-    Book {
-        year: year,
-        month: month,
-        points: points,
-        suppliers: suppliers,
-        elements: elements,
-        periods: 0,
-        holders: 0,
-        states: 0,
-        round: 1,
-        first: first_day(year, month),
-        days: days_in_month(year, month),
-    }
+    let mut book = named_book(year, month, points, suppliers, elements);
+    book.first = first_day(year, month);
+    book.days = days_in_month(year, month);
+    book
 }
 
 // Every reading is 0. Linear in the readings lent.

@@ -31,9 +31,11 @@ static const int64_t prices[ELEMENTS * SETTLEMENT_BOOK_ELEMENT_PRICES] = {
     [SETTLEMENT_BOOK_ELEMENT_PRICES] = 500000,
 };
 
-/* two of the book's numbers */
+/* some of the book's numbers */
 #define YEAR_AT 0
 #define ROUND_AT 8
+#define FIRST_DAY_AT 9
+#define DAYS_AT 10
 
 /* ---- what is lent */
 
@@ -314,7 +316,7 @@ static void opening(void) {
     ((uint8_t *)start[ELEMENT_DATA])[0] = element_data[0];
 
     call(OPEN, "opening", SETTLEMENT_BOOK_ACCEPTED, WRITTEN);
-    const uint64_t fresh[SETTLEMENT_BOOK_SIZE] = {YEAR, MONTH, POINTS, SUPPLIERS, ELEMENTS, 0, 0, 0, 1};
+    const uint64_t fresh[SETTLEMENT_BOOK_SIZE] = {YEAR, MONTH, POINTS, SUPPLIERS, ELEMENTS, 0, 0, 0, 1, FIRST_DAY, DAYS};
     expect("opening", "the book's numbers", memcmp(start[BOOK], fresh, sizeof fresh) == 0);
     for (int part = LINKS; part <= SENT; part++) {
         size_t nonzero = 0;
@@ -455,18 +457,23 @@ static void wrong_lengths(void) {
     }
 }
 
-/* A book of another century, and one whose next round has no kind: an opening asks only the first. */
+/* A book of another century, and books whose next round has no kind, or whose first day or days are another month's: an opening asks only
+ * the first. */
 static void wrong_books(void) {
+    static const struct {
+        int at;
+        uint64_t wrong;
+    } slips[] = {{ROUND_AT, 0}, {FIRST_DAY_AT, FIRST_DAY - 1}, {DAYS_AT, DAYS - 1}};
     ask_for_what_is_there();
-    const uint64_t round = numbers(BOOK)[ROUND_AT];
     for (int function = 0; function < FUNCTIONS; function++) {
         numbers(BOOK)[YEAR_AT] = 1999;
         call(function, functions[function].name, 2, NOTHING);
         numbers(BOOK)[YEAR_AT] = YEAR;
-        if (function != OPEN) {
-            numbers(BOOK)[ROUND_AT] = 0;
+        for (size_t slip = 0; slip < sizeof slips / sizeof *slips && function != OPEN; slip++) {
+            const uint64_t right = numbers(BOOK)[slips[slip].at];
+            numbers(BOOK)[slips[slip].at] = slips[slip].wrong;
             call(function, functions[function].name, 5, NOTHING);
-            numbers(BOOK)[ROUND_AT] = round;
+            numbers(BOOK)[slips[slip].at] = right;
         }
     }
     call(MESSAGE, "the reading of the tests above", SETTLEMENT_BOOK_ACCEPTED, WRITTEN | ONLY(COUNT));

@@ -53,6 +53,9 @@ turn-of c = search
 abbrev read-of : Turned → Read
 read-of c = search
 
+abbrev turned-of : tie.After-write-out Inv-loop μ-loop → Turned
+turned-of c = search
+
 -- the tables at the head of a turn
 abbrev now-lent : Head → Lists
 now-lent c =
@@ -97,14 +100,15 @@ with-output-requires c κs = search needs
 
 loop-less : tie.Need-loop-less Inv-loop μ-loop
 loop-less c =
-    let turned : Turned = search in
+    let written : tie.After-write-out Inv-loop μ-loop = search in
+    let turned = turned-of written in
     let w = ap (λ (s : Session). s .turns) (c .with-output .ensures) in
     omega (arith, w, turned .turn .ensures .turns, one-left (turn-of (read-of turned)))
 
 loop-again : tie.Need-loop-again Inv-loop μ-loop
 loop-again c =
-    let turned : Turned = search in
     let written : tie.After-write-out Inv-loop μ-loop = search in
+    let turned = turned-of written in
     let read = read-of turned in
     let head = head-of (turn-of read) in
     let l = head .loop in
