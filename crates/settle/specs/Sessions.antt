@@ -101,8 +101,8 @@ withOutput s output =
       turns = s .turns;
     }
 
--- Whatever follows what was read so far: what is printed for all of it is what was handed over for writing so far, and what is printed for the
--- bytes in hand and the rest. No contract can name what the operating system has delivered and taken: that it is this is assumed.
+-- Whatever follows what was read so far: what is printed for all of it is what was handed over for writing so far, and what is printed for
+-- the bytes in hand and the rest. No contract can name what the operating system has delivered and taken: that it is this is assumed.
 pub record Followed (s : Session) (t : Lists) (buffer : List ℕ) : Type 0 where
   pub read : List ℕ
   pub written : List ℕ

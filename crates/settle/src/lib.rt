@@ -1,6 +1,6 @@
 // `settle` reads a month's file from standard input and prints the book's line, its records and its refusals. The input comes in pieces
-// through one buffer. What happens between a read and a write is one function, `turn`; `run_session` reads, makes a turn and writes until the run
-// is over, and answers the program's status.
+// through one buffer. What happens between a read and a write is one function, `turn`; `run_session` reads, makes a turn and writes until
+// the run is over, and answers the program's status.
 ghost use mathlib.Core.Path.{_≡_};
 ghost use Prim.Native.Nat.{_-_, _*_, _≤_, _<_};
 ghost use lib.ListN.{length, take, drop};
@@ -9,7 +9,7 @@ ghost use Rattle.rules.specs.Sizes.{hourPlaces, recordSize};
 ghost use Rattle.rules.specs.Lent.{given, lent, left, was};
 ghost use Rattle.file.specs.Program.{settleRecords, settlePoints};
 ghost use Rattle.runner.specs.Parts.{Sized};
-ghost use Rattle.runner.specs.Texts.{lastNumber};
+ghost use Rattle.runner.specs.Texts.{lastNumber, longestText};
 ghost use Rattle.settle.specs.Sessions.{arrived, endedBy, failedBy, bufferSize, Lent, Turns};
 ghost use Rattle.settle.specs.Sessions.{Begun, withOutput, goesOn, statusOf, Ended};
 use libc::EINTR;
@@ -130,7 +130,7 @@ pub fn turn(
     out: &mut [u8],
 ) -> Turned
     requires { ⌜ Lent session (given element_data prices links holders states readings blocks lines sent) (now buffer) (now records) ⌝ }
-    requires { ⌜ session .turns < lastNumber ⌝ }
+    requires { ⌜ (session .turns < lastNumber) × (longestText ≤ length (now out)) ⌝ }
     ensures { λ r. ⌜ (let t = lent element_data prices links holders states readings blocks lines sent in
         Turns session (input .answer) (t .entry) (was buffer) r (t .exit) (left buffer) (left out)) ⌝ }
 {
@@ -295,7 +295,8 @@ fn run_session(
     out: &mut [u8],
 ) -> u32
     requires { ⌜ Sized (given element_data prices links holders states readings blocks lines sent) ⌝ }
-    requires { ⌜ (length (now buffer) ≡ bufferSize) × (length (now records) ≡ settleRecords * recordSize) ⌝ }
+    requires { ⌜ (length (now buffer) ≡ bufferSize) × (length (now records) ≡ settleRecords * recordSize)
+        × (longestText ≤ length (now out)) ⌝ }
     ensures { λ r. ⌜ (let t = lent element_data prices links holders states readings blocks lines sent in
         Ended r (t .exit) (left buffer)) ⌝ }
 {
@@ -343,6 +344,12 @@ fn no_records() -> [i64; RECORD_NUMBERS]
 // Room for the longest text of a field, and as much again, so that not every field is written by itself.
 const TEXT_PLACES: usize = 2 * LONGEST_TEXT;
 
+fn no_text() -> [u8; TEXT_PLACES]
+    ensures { λ r. ⌜ 2 * longestText ≡ length r ⌝ }
+{
+    [0; TEXT_PLACES]
+}
+
 // The program: `program/settle.c` calls it and ends with its answer, since a program of the kit cannot set its status.
 #[no_mangle]
 pub extern "C" fn settle_run() -> u32 {
@@ -356,7 +363,7 @@ pub extern "C" fn settle_run() -> u32 {
     let mut lines = [0i64; LINE_TABLE_PLACES];
     let mut sent = [0i64; LINE_TABLE_PLACES];
     let mut records = no_records();
-    let mut out = [0u8; TEXT_PLACES];
+    let mut out = no_text();
     let mut buffer = io::large_buffer();
     run_session(
         &mut buffer,

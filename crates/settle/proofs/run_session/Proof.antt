@@ -88,8 +88,9 @@ turn-requires c κs =
     let read : Read = search in
     let head = head-of (turn-of read) in
     let l = head .loop in (
-      lent-on (l .session) (now-lent head) (l .buffer) (read .read-on .last .1 .0) (l .records) (l .inv .0 .ready) (omega (arith, read .read-on .kept)),
-      one-left (turn-of read),
+      lent-on (l .session) (now-lent head) (l .buffer) (read .read-on .last .1 .0) (l .records) (l .inv .0 .ready)
+          (omega (arith, read .read-on .kept)),
+      (one-left (turn-of read), omega (arith, l .inv .1, start-of head .pre .1 .2)),
     )
 
 write-out-requires : tie.Need-write-out-requires Inv-loop μ-loop

@@ -69,7 +69,7 @@ has-failed-requires c κs = search needs
 add-turns : tie.Need-add-turns
 add-turns c =
     let kept : Kept = search in
-    omega (arith, start-of (arrived-of (ran-of kept)) .pre .1)
+    omega (arith, start-of (arrived-of (ran-of kept)) .pre .1 .0)
 
 same-length : tie.Need-same-length
 same-length c = search needs
