@@ -166,7 +166,8 @@ module _ (year month points suppliers elements : ℕ) (named : Book) (numbers ou
   pub named-refused : a ≢ 0 → worldIn named after ≡ begins
   unfolding afterOpening
   named-refused z =
-      let same : worldIn fresh after ≡ worldIn fresh o = opens .world ∙ rw (ne-eqb (openingAnswer (worldIn fresh o)) 0 (λ e. z (opens .number ∙ e))) in
+      let same : worldIn fresh after ≡ worldIn fresh o =
+      opens .world ∙ rw (ne-eqb (openingAnswer (worldIn fresh o)) 0 (λ e. z (opens .number ∙ e))) in
       rw f (ap (λ (w : World). record { opening = w .opening; position = w .position; sent = w .sent; dates = begins .dates }) same)
 
   -- and an accepted one the opened book, whose numbers are put

@@ -51,8 +51,8 @@ pub record FromOpening (w after : World) (fs : List Fields) (count : ℕ) (lent 
       → total m s e (recordsIn (length (reachedBy w (upTo x) lent .records)) out)
       ≡ named m (lineQuery (reachedBy w (upTo x) lent .world) s e)
 
--- what a function promises that opens a month in the world w, where no row is in use, and then runs the list: the rules' run and demand 3 where
--- the opening is accepted, and everything as it was where it is refused
+-- what a function promises that opens a month in the world w, where no row is in use, and then runs the list: the rules' run and demand
+-- 3 where the opening is accepted, and everything as it was where it is refused
 pub record OpensAndRuns (w after : World) (fs : List Fields) (answer count : ℕ) (lent out : List ℤ) (table answered : List ℕ) : Type 0 where
   pub number : answer ≡ openingAnswer w
   pub followed : answer ≡ 0 → Followed (opened w) after fs count lent out table answered

@@ -103,7 +103,8 @@ module _ (b : Book) (o : Lists) where
   -- message 6
   pub reading-left : (p d h n at : ℕ) → at ≡ readingAt (openingIn b o) p d h
       → RecordedAs b o (Reading p d h n) b (lendReadings (set (o .readings) at n) o)
-  reading-left p d h n at e = record { tables = rw e (unfold told withReadings in refl); opening = refl; round = refl; first = refl; days = refl }
+  reading-left p d h n at e =
+      record { tables = rw e (unfold told withReadings in refl); opening = refl; round = refl; first = refl; days = refl }
 
   -- message 7
   pub block-left : (p v : ℕ) → RecordedAs b o (Block p v) b (lendBlocks (set (o .blocks) p v) o)

@@ -13,7 +13,8 @@ use Rattle.integers.proofs.Sums.{sum-zero}
 use Rattle.rules.specs.Sizes.{lineSize, mostEnergy}
 use Rattle.rules.specs.Basics.{within, chained, allIn, latest}
 use Rattle.rules.specs.Lines.{Measure, Terms, line}
-use Rattle.rules.specs.World.{Opening, World, tableOf, monthFirst, monthDays, monthDates, lineCount, energyOf, amountOf, storedAt, stored}
+use Rattle.rules.specs.World.{Opening, World, tableOf, monthFirst, monthDays, monthDates, lineCount, energyOf, amountOf}
+use Rattle.rules.specs.World.{storedAt, stored}
 use Rattle.rules.specs.WellFormed.{withinLimits, rowsFit, readingCount, linePlaces, openingSized, tablesSized, linesSized, lineLimit}
 use Rattle.rules.specs.WellFormed.{lineRight, linesRight, linksRight, holdersRight, statesRight, question2, question3, question4}
 use Rattle.rules.specs.WellFormed.{datesRight, question5}

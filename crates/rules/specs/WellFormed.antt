@@ -13,7 +13,8 @@ use Rattle.rules.specs.Sizes.{elementSize, pricePlaces, hourPlaces, line
 use Rattle.rules.specs.Rows.{periodPoint, periodElement, periodFirst, periodEnd, periodQuantity, ofPair}
 use Rattle.rules.specs.Rows.{valuePoint, valueFirst, valueOf}
 use Rattle.rules.specs.Lines.{Measure, subscription, fee, tariff}
-use Rattle.rules.specs.World.{Opening, Table, Tables, Dates, World, rowsOf, monthFirst, monthDays, kindOf, ownerOf, marksOf, lineCount, storedAt}
+use Rattle.rules.specs.World.{Opening, Table, Tables, Dates, World, rowsOf, monthFirst, monthDays, kindOf, ownerOf, marksOf}
+use Rattle.rules.specs.World.{lineCount, storedAt}
 use Rattle.rules.specs.World.{gridCompany, energinet, marked, passOn, tax, hourly, allMarks, newState, closed}
 
 -- ---- 2: "Is the month within 2000 to 2099 and every count within its limit?"

@@ -2,6 +2,7 @@
 // record that the rounds have written, in their order, and then a line for each message that was refused.
 ghost use Prim.Native.Nat.{ℕ, _<_};
 ghost use Rattle.ledger.specs.RecordNumbers.{RecordPlaces};
+use file::output::LONGEST_LINE;
 use file::output::put_record;
 use file::output::put_refused;
 use history::open_and_run;
@@ -44,16 +45,13 @@ fn listed() -> [u64; MESSAGES * FIELDS_SIZE] {
     numbers
 }
 
-// Room for the longest line.
-const LINE_PLACES: usize = 135;
-
 // The first `count` records of the list.
 fn show_records(records: &[i64], count: usize)
     requires { ⌜ ((i : ℕ) → i < count → RecordPlaces (now records) i) ⌝ }
 {
     let mut i = 0;
     while i < count {
-        let mut line = [0u8; LINE_PLACES];
+        let mut line = [0u8; LONGEST_LINE];
         let n = put_record(&mut line, 0, record_at(records, i));
         io::write_all(STDOUT_FILENO, &line[..n]);
         i += 1;
@@ -61,7 +59,7 @@ fn show_records(records: &[i64], count: usize)
 }
 
 fn show_refused(message: u64, question: u64) {
-    let mut line = [0u8; LINE_PLACES];
+    let mut line = [0u8; LONGEST_LINE];
     let n = put_refused(&mut line, 0, message, question);
     io::write_all(STDOUT_FILENO, &line[..n]);
 }

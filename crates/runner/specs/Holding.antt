@@ -34,8 +34,8 @@ pub record HoldsBook (b : Book) (t : Lists) (w : World) : Type 0 where
   pub whole : Whole w
   pub points : b .points ≤ settlePoints
 
--- the numbers and the tables stand for the stage; the next message is number 1 until one has come. At the start the month is still to come, and
--- where the run is over nothing is read any more: the rest of the progress may then be anything
+-- the numbers and the tables stand for the stage; the next message is number 1 until one has come. At the start the month is still to
+-- come, and where the run is over nothing is read any more: the rest of the progress may then be anything
 abbrev pub Represents : Progress → Lists → Stage → Type 0
 Represents p t start = (p .over ≡ false) × (p .phase ≡ Phase.Start) × (p .number ≡ 1)
 Represents p t (elements h values) =

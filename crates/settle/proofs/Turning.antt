@@ -111,7 +111,8 @@ module _ (s : Session) (got : ℤ) (t : Lists) (before buffer : List ℕ) (r : T
           read = f .read ++ come;
           written = f .written ++ take (output .count) out′;
           reached = rw (o, u .ended) (runs-joined (s .ended) (endedBy s got) start (f .read) come (f .written) (take (r .written) out′)
-              (s .progress) (r .session .progress) t t′ (take (s .held) before) (take (r .session .held) buffer′) ended-before (f .reached) q);
+              (s .progress) (r .session .progress) t t′ (take (s .held) before) (take (r .session .held) buffer′)
+              ended-before (f .reached) q);
         }
 
 -- ---- the session's loop

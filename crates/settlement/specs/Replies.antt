@@ -30,7 +30,13 @@ pub record ReadyIn (b : Book) (o : Lists) (body : Body) : Type 0 where
 
 -- tables and lines after it, with what was sent as it was
 unfoldable pub movedOn : World → Body → World
-movedOn w b = record { opening = w .opening; position = record { tables = tablesAfter w b; lines = linesAfter w b }; sent = w .sent; dates = w .dates }
+movedOn w b =
+    record {
+      opening = w .opening;
+      position = record { tables = tablesAfter w b; lines = linesAfter w b };
+      sent = w .sent;
+      dates = w .dates;
+    }
 
 -- question 17, and what follows it
 pub record Applied (w after : World) (b : Body) (number : ℕ) : Type 0 where

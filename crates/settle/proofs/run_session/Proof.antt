@@ -115,8 +115,9 @@ loop-again c =
     let l = head .loop in
     let z = l .inv .0 .ready .sized in
     let k = turned .turn .kept in (
-      rw (c .with-output .ensures) (going-on (l .session) (read .read-on .result .answer) (now-lent head) (l .buffer) (read .read-on .last .1 .0)
-          (l .records) (turned .turn .result) _ _ _ _ (l .inv .0) (read .read-on .ensures) (omega (arith, read .read-on .kept))
+      rw (c .with-output .ensures) (going-on (l .session) (read .read-on .result .answer) (now-lent head) (l .buffer)
+          (read .read-on .last .1 .0) (l .records) (turned .turn .result) _ _ _ _ (l .inv .0) (read .read-on .ensures)
+          (omega (arith, read .read-on .kept))
           (turned .turn .ensures)
           (record {
             elementData = omega (arith, k, z);

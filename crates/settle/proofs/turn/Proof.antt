@@ -36,7 +36,8 @@ ran-of c = search
 within : (c : Arrived) → start-of c .args .session .held + c .bytes-arrived .result ≤ length (start-of c .args .buffer .now)
 within c =
     let a = start-of c .args in
-    come-fits (a .session) (a .input .answer) (length (a .buffer .now)) (c .bytes-arrived .result) (c .bytes-arrived .ensures) (start-of c .pre .0 .held)
+    come-fits (a .session) (a .input .answer) (length (a .buffer .now)) (c .bytes-arrived .result) (c .bytes-arrived .ensures)
+    (start-of c .pre .0 .held)
 
 bytes-arrived-requires : tie.Need-bytes-arrived-requires
 bytes-arrived-requires c κs = search needs
@@ -115,9 +116,11 @@ returns c =
     let arrived = arrived-of ran in
     let start = start-of arrived in
     let a = start .args in
-    turns-so (a .session) (a .input .answer) _ (a .buffer .now) (a .out .now) (ran .run .result) (arrived .bytes-arrived .result) (kept .keep-rest .result)
+    turns-so (a .session) (a .input .answer) _ (a .buffer .now) (a .out .now) (ran .run .result) (arrived .bytes-arrived .result)
+    (kept .keep-rest .result)
     (ended-of ran .has-ended .result) (failed .has-failed .result) _ _ _ (start .pre .0 .held) (arrived .bytes-arrived .ensures)
-    (ended-of ran .has-ended .ensures) (failed .has-failed .ensures) (ran .run .ensures .0) (ran .run .ensures .1) (kept .keep-rest .ensures .0)
+    (ended-of ran .has-ended .ensures) (failed .has-failed .ensures) (ran .run .ensures .0) (ran .run .ensures .1)
+    (kept .keep-rest .ensures .0)
     (kept .keep-rest .kept .0) (kept .keep-rest .ensures .1)
 
 pub turn-spec : {M : Type 1} → statement M

@@ -24,7 +24,8 @@ ends-before c = search
 inside : (c : tie.After-ends-of) → Within (c .ends-of .result) (lent (start-of c) (start-of c .pre .1 .0))
 inside c =
     let start = start-of c in
-    within (start .args .book) (start .pre .0 .0) (c .ends-of .result) (c .ends-of .ensures) (lent start (start .pre .1 .0)) (start .pre .1 .1)
+    within (start .args .book) (start .pre .0 .0) (c .ends-of .result) (c .ends-of .ensures) (lent start (start .pre .1 .0))
+    (start .pre .1 .1)
 
 ends-of-requires : tie.Need-ends-of-requires
 ends-of-requires c κs = search needs

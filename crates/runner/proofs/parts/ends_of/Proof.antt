@@ -37,13 +37,15 @@ mul-t9 c =
 mul-t11 : tie.Need-mul-t11
 mul-t11 c =
     let a = c .before .args .book in
-    let h : a .suppliers * a .elements ≤ mostSuppliers * mostElements = mul-le-mul (c .before .pre .0 .suppliers) (c .before .pre .0 .elements) in
+    let h : a .suppliers * a .elements ≤ mostSuppliers * mostElements =
+    mul-le-mul (c .before .pre .0 .suppliers) (c .before .pre .0 .elements) in
     omega arith
 
 mul-t12 : tie.Need-mul-t12
 mul-t12 c =
     let a = c .before .args .book in
-    let h : a .suppliers * a .elements ≤ mostSuppliers * mostElements = mul-le-mul (c .before .pre .0 .suppliers) (c .before .pre .0 .elements) in
+    let h : a .suppliers * a .elements ≤ mostSuppliers * mostElements =
+    mul-le-mul (c .before .pre .0 .suppliers) (c .before .pre .0 .elements) in
     omega arith
 
 returns : tie.Need-returns

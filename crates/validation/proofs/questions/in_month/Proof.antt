@@ -16,7 +16,9 @@ month-days-requires : tie.Need-month-days-requires
 month-days-requires c κs = search needs
 
 add-if2 : tie.Need-add-if2
-add-if2 c = let s = c .before .before .before in let h = month-within (s .args .book .year) (s .args .book .month) (s .pre .month) in omega arith
+add-if2 c =
+    let s = c .before .before .before in
+    let h = month-within (s .args .book .year) (s .args .book .month) (s .pre .month) in omega arith
 
 returns : tie.Need-returns
 unfolding ask question16 monthFirst monthDays
