@@ -1,7 +1,6 @@
 // Questions 2 to 5 of whatever is lent as a book: any numbers, slices of any length, any words.
 // Products are computed only where question 2 has passed.
 ghost use mathlib.Core.Path.{_≡_};
-ghost use mathlib.Core.Bool.{_&&_};
 ghost use Prim.Native.Nat.{_*_, _≤_};
 ghost use lib.Dec.{leb};
 ghost use lib.ListN.{length};
@@ -33,15 +32,10 @@ use tables::holders_right;
 use tables::links_right;
 use tables::states_right;
 use validation::fields::all_three;
+use validation::fields::both_hold;
 use validation::limits::is_limited;
 use validation::limits::rows_fit;
 use validation::questions::number;
-
-fn both(first: bool, second: bool) -> bool
-    ensures { λ r. ⌜ r ≡ first && second ⌝ }
-{
-    if first { second } else { false }
-}
 
 // ---- question 3
 
@@ -69,7 +63,7 @@ fn is_sized(book: Book, lengths: Lengths) -> bool
     let days = days_in_month(book.year, book.month) as usize;
     let count = book.suppliers as usize * elements * LINE_SIZE;
     all_three(
-        both(
+        both_hold(
             lengths.element_data == elements * ELEMENT_SIZE,
             lengths.prices == elements * PRICE_PLACES,
         ),
@@ -82,7 +76,7 @@ fn is_sized(book: Book, lengths: Lengths) -> bool
                 lengths.blocks == points,
             ),
         ),
-        both(lengths.lines == count, lengths.sent == count),
+        both_hold(lengths.lines == count, lengths.sent == count),
     )
 }
 
@@ -95,7 +89,7 @@ pub fn check_opening(book: Book, element_data: &[u8], prices: &[i64], lengths: L
         let t = lendElements (was element_data) (was prices) o in
         lengthsOf t ≡ lengths → numberOf r ≡ openingAnswer (worldIn book t)) ⌝ }
 {
-    if both(is_limited(book), rows_fit(book)) {
+    if both_hold(is_limited(book), rows_fit(book)) {
         if is_sized(book, lengths) {
             if elements_right(book, element_data, prices) {
                 Answer::Accepted
@@ -180,7 +174,7 @@ fn dates_right(book: Book) -> bool
     requires { ⌜ InRange (book .year) (book .month) ⌝ }
     ensures { λ r. ⌜ ((o : Lists) → r ≡ datesRight (openingIn book o) (worldIn book o .dates)) ⌝ }
 {
-    both(
+    both_hold(
         book.first == first_day(book.year, book.month),
         book.days == days_in_month(book.year, book.month),
     )

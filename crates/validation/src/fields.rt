@@ -77,7 +77,7 @@ pub fn sender_of(suppliers: u64, f: Fields) -> FoundSender
 }
 
 // Two tests, both of which hold.
-fn both_hold(first: bool, second: bool) -> bool
+pub fn both_hold(first: bool, second: bool) -> bool
     ensures { λ r. ⌜ r ≡ first && second ⌝ }
 {
     if first { second } else { false }

@@ -11,16 +11,16 @@ first-day-requires c κs = search needs
 days-in-month-requires : tie.Need-days-in-month-requires
 days-in-month-requires c κs = search needs
 
-both-requires : tie.Need-both-requires
-both-requires c κs = search needs
+both-hold-requires : tie.Need-both-hold-requires
+both-hold-requires c κs = search needs
 
 returns : tie.Need-returns
 unfolding datesRight monthFirst monthDays
 returns c o =
     let first : tie.After-first-day = search in
     let days : tie.After-days-in-month = search in
-    rw (c .both .ensures, first .first-day .ensures, days .days-in-month .ensures)
+    rw (c .both-hold .ensures, first .first-day .ensures, days .days-in-month .ensures)
 
 pub dates-right-spec : {M : Type 1} → statement M
 dates-right-spec =
-    tie.close (tie.spec first-day-requires days-in-month-requires both-requires returns)
+    tie.close (tie.spec first-day-requires days-in-month-requires both-hold-requires returns)

@@ -15,10 +15,10 @@ use Rattle.settlement_book.proofs.questions.is_sized.Tie as tie
 abbrev start-of : tie.After-days-in-month → tie.Start
 start-of c = search
 
-abbrev days-of : tie.After-both → tie.After-days-in-month
+abbrev days-of : tie.After-both-hold → tie.After-days-in-month
 days-of c = search
 
-abbrev elements-of : tie.After-all-three → tie.After-both
+abbrev elements-of : tie.After-all-three → tie.After-both-hold
 elements-of c = search
 
 lines-few : (s : tie.Start) → s .args .book .suppliers * s .args .book .elements ≤ mostLines
@@ -42,17 +42,17 @@ mul-count c = let k = lines-few (start-of c) in omega arith
 mul-count-2 : tie.Need-mul-count-2
 mul-count-2 c = let k = lines-few (start-of c) in omega arith
 
-mul-both : tie.Need-mul-both
-mul-both c = let l = start-of c .pre noLists .elements in omega arith
+mul-both-hold : tie.Need-mul-both-hold
+mul-both-hold c = let l = start-of c .pre noLists .elements in omega arith
 
-mul-both-2 : tie.Need-mul-both-2
-mul-both-2 c =
+mul-both-hold-2 : tie.Need-mul-both-hold-2
+mul-both-hold-2 c =
     let days : tie.After-days-in-month = search in
     let l = start-of days .pre noLists .elements in
     omega arith
 
-both-requires : tie.Need-both-requires
-both-requires c κs = search needs
+both-hold-requires : tie.Need-both-hold-requires
+both-hold-requires c κs = search needs
 
 mul-all-three : tie.Need-mul-all-three
 mul-all-three c =
@@ -72,22 +72,22 @@ all-three-requires c κs = search needs
 all-three-requires-2 : tie.Need-all-three-requires-2
 all-three-requires-2 c κs = search needs
 
-both-requires-2 : tie.Need-both-requires-2
-both-requires-2 c κs = search needs
+both-hold-requires-2 : tie.Need-both-hold-requires-2
+both-hold-requires-2 c κs = search needs
 
 all-three-requires-3 : tie.Need-all-three-requires-3
 all-three-requires-3 c κs = search needs
 
 returns : tie.Need-returns
 returns c o e =
-    let elements : tie.After-both = search in
+    let elements : tie.After-both-hold = search in
     let points : tie.After-all-three = search in
     let tables : tie.After-all-three2 = search in
-    let lines : tie.After-both2 = search in
+    let lines : tie.After-both-hold2 = search in
     let days = days-of (elements-of points) in
     let a = start-of days .args in
     c .all-three3 .ensures
-    ∙ rw (elements .both .ensures, tables .all-three2 .ensures, points .all-three .ensures, lines .both2 .ensures)
+    ∙ rw (elements .both-hold .ensures, tables .all-three2 .ensures, points .all-three .ensures, lines .both-hold2 .ensures)
     (fitting-is (a .book) o (a .lengths) (days .days-in-month .result) e (days .days-in-month .ensures))
 
 pub is-sized-spec : {M : Type 1} → statement M
@@ -97,13 +97,13 @@ is-sized-spec =
     days-in-month-requires
     mul-count
     mul-count-2
-    mul-both
-    mul-both-2
-    both-requires
+    mul-both-hold
+    mul-both-hold-2
+    both-hold-requires
     mul-all-three
     mul-all-three-2
     all-three-requires
     all-three-requires-2
-    both-requires-2
+    both-hold-requires-2
     all-three-requires-3
     returns)
