@@ -79,7 +79,7 @@ module _ (tag : ℕ) (value rest : List ℕ) where
 -- ---- the three fields
 
 pub month-decoded : (year month points suppliers : ℕ) (rest : List ℕ) → year < 65536 → month < 256 → points < 65536 → suppliers < 256
-    → fieldOf (encodeMonth year month points suppliers ++ rest) Phase.Start ≡ Month year month points suppliers 9
+    → fieldOf (encodeMonth year month points suppliers ++ rest) Phase.Start ≡ Month year month points suppliers
 unfolding encodeMonth encodeField numberBytes headerRight tagAllowed lengthDue fieldNamed monthIn numberIn tagOf bytesNumber followed
 month-decoded year month points suppliers rest y m p s =
     field-decoded 1 (numberBytes 2 year ++ numberBytes 1 month ++ numberBytes 2 points ++ numberBytes 1 suppliers) rest Phase.Start
@@ -88,7 +88,7 @@ month-decoded year month points suppliers rest y m p s =
 
 -- a message where one may come: behind the elements and behind messages
 pub message-decoded : (f : Fields) (rest : List ℕ) (phase : Phase) → tagAllowed phase 3 ≡ true → FieldsFit f
-    → fieldOf (encodeMessage f ++ rest) phase ≡ Message f 22
+    → fieldOf (encodeMessage f ++ rest) phase ≡ Message f
 unfolding encodeMessage encodeField messageValue numberBytes headerRight lengthDue fieldNamed messageFields numberIn tagOf bytesNumber
     followed
 message-decoded f rest phase a h =
@@ -129,12 +129,12 @@ element-right : (n m marks : ℕ) → n ≡ elementLength marks → m ≡ marks 
 unfolding headerRight tagAllowed lengthDue
 element-right n m marks h e = rw e (eq-eqb n (elementLength marks) h)
 
-element-named : (bytes : List ℕ) (n : ℕ) → tagOf bytes ≡ 2 → lengthOf bytes ≡ n → fieldNamed bytes ≡ Element 3 n (3 + n)
+element-named : (bytes : List ℕ) (n : ℕ) → tagOf bytes ≡ 2 → lengthOf bytes ≡ n → fieldNamed bytes ≡ Element n
 unfolding fieldNamed
 element-named bytes n t l = rw (t, l)
 
 pub element-decoded : (kind owner marks : ℕ) (ps : List ℤ) (rest : List ℕ) → length ps ≡ cond (eqb (marks / 8 % 2) 1) pricePlaces 1
-    → fieldOf (encodeElement kind owner marks ps ++ rest) Phase.Elements ≡ Element 3 (elementLength marks) (3 + elementLength marks)
+    → fieldOf (encodeElement kind owner marks ps ++ rest) Phase.Elements ≡ Element (elementLength marks)
 unfolding encodeElement
 element-decoded kind owner marks ps rest h =
     let n : length (elementValue kind owner marks ps) ≡ elementLength marks = value-length kind owner marks ps ∙ due-length marks ps h in

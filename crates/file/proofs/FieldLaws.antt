@@ -16,7 +16,7 @@ use Rattle.file.specs.declared.fields.Found.{Found}
 use Rattle.file.specs.declared.fields.Found.the-variants.{Month, Element, Message, End, More, Broken}
 use Rattle.file.specs.Bytes.{numberIn}
 use Rattle.file.specs.Field.{headerSize, hourlyLength, tagOf, lengthOf, marksIn, tagAllowed, elementLength, lengthDue, headerRight}
-use Rattle.file.specs.Field.{monthIn, messageFields, fieldNamed, rightField, wholeField, fieldOf, cutOff, fieldIn, fieldFrom}
+use Rattle.file.specs.Field.{monthIn, messageFields, fieldNamed, rightField, wholeField, fieldOf, cutOff, fieldIn, fieldSize}
 use Rattle.file.specs.Field.{RightField, Inside}
 use Rattle.file.proofs.ByteLaws.{number-from, number-front}
 
@@ -49,7 +49,7 @@ right-length phase tag n marks h = eqb-true n (lengthDue tag marks) (both (tagAl
 -- ---- room for a right field that starts at a place
 
 module _ (bytes : List ℕ) (at tag n : ℕ) (h : RightField (drop at bytes) tag n) where
-  pub field-room : at + (3 + n) ≤ length bytes
+  field-room : at + (3 + n) ≤ length bytes
   field-room = let k = rw length-drop at (h .whole) in omega arith
 
   pub month-room : tag ≡ 1 → at + 9 ≤ length bytes
@@ -59,11 +59,6 @@ module _ (bytes : List ℕ) (at tag n : ℕ) (h : RightField (drop at bytes) tag
   message-room d e = let k : n ≡ 19 = h .due ∙ due-message tag _ d e in omega (arith, field-room)
 
 -- ---- the tests of `fieldIn`
-
-pub from-cut : (at have : ℕ) (ended : Bool) → fieldFrom at (cutOff have ended) ≡ cutOff have ended
-unfolding fieldFrom cutOff
-from-cut at have false = refl
-from-cut at have true = cases (eqb have 0) (λ t. rw t) (λ t. rw t)
 
 module _ (bytes : List ℕ) (phase : Phase) (ended : Bool) where
   pub in-short : length bytes < 6 → fieldIn bytes phase ended ≡ cutOff (length bytes) ended
@@ -87,10 +82,10 @@ module _ (bytes : List ℕ) (phase : Phase) (ended : Bool) where
 -- ---- the same of a place of a slice, where the code's tests speak of the slice
 
 pub at-short : (s : List ℕ) (at : ℕ) (phase : Phase) (ended : Bool) → length s - at < 6
-    → cutOff (length s - at) ended ≡ fieldFrom at (fieldIn (drop at s) phase ended)
+    → cutOff (length s - at) ended ≡ fieldIn (drop at s) phase ended
 at-short s at phase ended h =
     let k : length (drop at s) < 6 = rw length-drop h in
-    rw (in-short (drop at s) phase ended k, length-drop at s) (sym (from-cut at _ ended))
+    rw (in-short (drop at s) phase ended k, length-drop at s)
 
 -- a header was read at a place with room for one
 pub record HeaderRead (s : List ℕ) (at tag n marks : ℕ) : Type 0 where
@@ -115,16 +110,15 @@ module _ {s : List ℕ} {at tag n marks : ℕ} (phase : Phase) (ended : Bool) (h
   unfolding rightField marksIn
   right-here = rw (← tag-here, ← length-here, number-from s at 5 1, ← h .marked)
 
-  pub at-wrong : headerRight phase tag n marks ≡ false → Broken ≡ fieldFrom at (fieldIn (drop at s) phase ended)
-  unfolding fieldFrom
+  pub at-wrong : headerRight phase tag n marks ≡ false → Broken ≡ fieldIn (drop at s) phase ended
   at-wrong w = rw (in-wrong (drop at s) phase ended enough (right-here ∙ w))
 
   pub at-cut : headerRight phase tag n marks ≡ true → length s - at - 3 < n
-      → cutOff (length s - at) ended ≡ fieldFrom at (fieldIn (drop at s) phase ended)
+      → cutOff (length s - at) ended ≡ fieldIn (drop at s) phase ended
   at-cut w k =
       let m = h .have in
       let l : length (drop at s) < 3 + lengthOf (drop at s) = rw (length-drop at s, ← length-here) (omega arith) in
-      rw (in-cut (drop at s) phase ended enough (right-here ∙ w) l, length-drop at s) (sym (from-cut at _ ended))
+      rw (in-cut (drop at s) phase ended enough (right-here ∙ w) l, length-drop at s)
 
   pub right-at : headerRight phase tag n marks ≡ true → n ≤ length s - at - 3 → RightField (drop at s) tag n
   unfolding marksIn
@@ -264,10 +258,10 @@ front-decides bytes phase = cases (ltb (length bytes) 6)
 
 -- ---- what was found lies within the bytes, and the next field begins behind it
 
-inside-cut : (at end have : ℕ) (ended : Bool) → Inside at end (cutOff have ended)
-unfolding cutOff
-inside-cut at end have false = tt
-inside-cut at end have true = cases (eqb have 0) (λ t. rw t tt) (λ t. rw t tt)
+inside-cut : (end have : ℕ) (ended : Bool) → Inside 0 end (cutOff have ended)
+unfolding cutOff fieldSize
+inside-cut end have false = (omega arith, tt)
+inside-cut end have true = cases (eqb have 0) (λ t. rw t (omega arith, tt)) (λ t. rw t (omega arith, tt))
 
 element-least : (bytes : List ℕ) → eqb (tagOf bytes) 1 ≡ false → eqb (tagOf bytes) 2 ≡ true
     → lengthOf bytes ≡ lengthDue (tagOf bytes) (marksIn bytes) → 11 ≤ lengthOf bytes
@@ -276,41 +270,31 @@ element-least bytes t u d = rw (d, t, u) (element-bounds (marksIn bytes) .0)
 
 inside-named : (bytes : List ℕ) (end : ℕ) → lengthOf bytes ≡ lengthDue (tagOf bytes) (marksIn bytes) → 3 + lengthOf bytes ≤ end
     → Inside 0 end (fieldNamed bytes)
-unfolding fieldNamed monthIn
+unfolding fieldNamed monthIn fieldSize
 inside-named bytes end d w = cases (eqb (tagOf bytes) 1)
-    (λ t. let n = due-month (tagOf bytes) (marksIn bytes) (eqb-true _ _ t) in rw t (omega arith, omega arith))
+    (λ t. let n = due-month (tagOf bytes) (marksIn bytes) (eqb-true _ _ t) in rw t (omega arith, tt))
     (λ t. rw t (cases (eqb (tagOf bytes) 2)
-    (λ u. rw u (omega arith, refl, w, element-least bytes t u d))
-    (λ u. let n = due-message (tagOf bytes) (marksIn bytes) (eqb-false _ _ t) (eqb-false _ _ u) in rw u (omega arith, omega arith))))
+    (λ u. rw u (omega (arith, w), element-least bytes t u d))
+    (λ u. let n = due-message (tagOf bytes) (marksIn bytes) (eqb-false _ _ t) (eqb-false _ _ u) in rw u (omega arith, tt))))
 
 pub inside-in : (bytes : List ℕ) (phase : Phase) (ended : Bool) → Inside 0 (length bytes) (fieldIn bytes phase ended)
-unfolding rightField
+unfolding rightField fieldSize
 inside-in bytes phase ended = cases (ltb (length bytes) 6)
-    (λ t. rw (in-short bytes phase ended (ltb-true _ _ t)) (inside-cut 0 (length bytes) (length bytes) ended))
+    (λ t. rw (in-short bytes phase ended (ltb-true _ _ t)) (inside-cut (length bytes) (length bytes) ended))
     (λ t.
     let h : 6 ≤ length bytes = ltb-false _ _ t in
     cases (rightField phase bytes)
     (λ r. cases (leb (3 + lengthOf bytes) (length bytes))
     (λ w. rw (in-whole bytes phase ended h r (leb-true _ _ w))
     (inside-named bytes (length bytes) (right-length phase (tagOf bytes) (lengthOf bytes) (marksIn bytes) r) (leb-true _ _ w)))
-    (λ w. rw (in-cut bytes phase ended h r (leb-false _ _ w)) (inside-cut 0 (length bytes) (length bytes) ended)))
-    (λ r. rw (in-wrong bytes phase ended h r) tt))
+    (λ w. rw (in-cut bytes phase ended h r (leb-false _ _ w)) (inside-cut (length bytes) (length bytes) ended)))
+    (λ r. rw (in-wrong bytes phase ended h r) (omega arith, tt)))
 
 pub inside-of : (bytes : List ℕ) (phase : Phase) → Inside 0 (length bytes) (fieldOf bytes phase)
 inside-of bytes phase = rw (whole-rest bytes phase) at (inside-in bytes phase true)
 
-inside-moved : (at n end : ℕ) (found : Found) → at + n ≤ end → Inside 0 n found → Inside at end (fieldFrom at found)
-unfolding fieldFrom
-inside-moved at n end (Month year month points suppliers next) l h = (omega arith, omega arith)
-inside-moved at n end (Element start size next) l h = (omega arith, omega arith, omega arith, h .3)
-inside-moved at n end (Message fields next) l h = (omega arith, omega arith)
-inside-moved at n end End l h = tt
-inside-moved at n end More l h = tt
-inside-moved at n end Broken l h = tt
-
 -- what `field_at` answers
 pub inside-at : (s : List ℕ) (at : ℕ) (phase : Phase) (ended : Bool) → at ≤ length s
-    → Inside at (length s) (fieldFrom at (fieldIn (drop at s) phase ended))
+    → Inside at (length s) (fieldIn (drop at s) phase ended)
 inside-at s at phase ended h =
-    inside-moved at (length (drop at s)) (length s) (fieldIn (drop at s) phase ended) (rw length-drop (omega arith))
-    (inside-in (drop at s) phase ended)
+    let i = inside-in (drop at s) phase ended in let l = length-drop at s in (omega (arith, i .0), i .1)

@@ -1,6 +1,7 @@
 -- Laws of the definitions, each file above what it cites.
 pub mod ByteLaws
 pub mod FieldLaws
+pub mod SizeLaws
 pub mod PlacedLaws
 pub mod DecimalLaws
 pub mod ElementLaws

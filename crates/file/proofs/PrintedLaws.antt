@@ -21,7 +21,7 @@ use Rattle.rules.proofs.Demand3.{demand3, recordsFrom, records-behind}
 use Rattle.file.specs.declared.fields.Phase.{Phase}
 use Rattle.file.specs.declared.fields.Found.{Found}
 use Rattle.file.specs.declared.fields.Found.the-variants.{Month, Element, Message, End, More, Broken}
-use Rattle.file.specs.Field.{fieldOf, Inside}
+use Rattle.file.specs.Field.{headerSize, monthSize, messageSize, fieldOf, fieldSize, Inside}
 use Rattle.file.specs.Lines.{refusedLine}
 use Rattle.file.specs.Program.{settlePoints, settleRecords, endedBy, recordLines, answered, onMessage, messagesFrom, Heading}
 use Rattle.file.specs.Program.{collected, lentFor, settleAnswer, openThen, onElement, elementsFrom, onMonth, settled}
@@ -66,12 +66,12 @@ on-message : (found : Found) (w : World) (number : ℕ) (more : ℕ → World �
     → ((next : ℕ) (after : World) → more next after ≡ rest-text after (rest next) (suc number))
     → onMessage found w number more ≡ rest-text w (messagesAt found rest) number
 unfolding onMessage messagesAt linesFrom
-on-message (Message f next) w number more rest h =
+on-message (Message f) w number more rest h =
     rw (append-assoc (linesOf w f number), text-append (linesOf w f number), text-answered w f number)
-    (ap (λ (t : List ℕ). answered w f number ++ t) (h next (step w f settleRecords)))
+    (ap (λ (t : List ℕ). answered w f number ++ t) (h messageSize (step w f settleRecords)))
 on-message End w number more rest h = unfold textOf in refl
-on-message (Month year month points suppliers next) w number more rest h = sym text-ended
-on-message (Element start size next) w number more rest h = sym text-ended
+on-message (Month year month points suppliers) w number more rest h = sym text-ended
+on-message (Element size) w number more rest h = sym text-ended
 on-message More w number more rest h = sym text-ended
 on-message Broken w number more rest h = sym text-ended
 
@@ -98,13 +98,13 @@ on-element : (found : Found) (bytes : List ℕ) (h : Heading) (values : List (Li
     → ((next : ℕ) (read : List (List ℕ)) → 0 < next → next ≤ end → more next read ≡ textOf (outputOf (rest next read)))
     → ((w : World) → messages w ≡ rest-text w ms 1)
     → onElement found bytes h values more messages ≡ textOf (outputOf (elementsAt found bytes h values rest ms))
-unfolding onElement elementsAt
-on-element (Element start size next) bytes h values end more messages rest ms k same at =
-    same next (values ++ (take size (drop start bytes) ∷ [])) (omega arith) (k .2)
-on-element (Message f next) bytes h values end more messages rest ms k same at = opens-text (collected h values) ms messages at
+unfolding onElement elementsAt fieldSize
+on-element (Element size) bytes h values end more messages rest ms k same at =
+    same (headerSize + size) (values ++ (take size (drop headerSize bytes) ∷ [])) (omega arith) (omega (arith, k .0))
+on-element (Message f) bytes h values end more messages rest ms k same at = opens-text (collected h values) ms messages at
 on-element End bytes h values end more messages rest ms k same at =
     opens-text (collected h values) (noMessages false) (λ w. []) (λ w. unfold linesFrom textOf in refl)
-on-element (Month year month points suppliers next) bytes h values end more messages rest ms k same at = unfold outputOf in sym text-ended
+on-element (Month year month points suppliers) bytes h values end more messages rest ms k same at = unfold outputOf in sym text-ended
 on-element More bytes h values end more messages rest ms k same at = unfold outputOf in sym text-ended
 on-element Broken bytes h values end more messages rest ms k same at = unfold outputOf in sym text-ended
 
@@ -124,10 +124,10 @@ elements-text (suc most) bytes h values l = on-element (fieldOf bytes Phase.Elem
 on-month : (found : Found) (end : ℕ) (more : Heading → ℕ → List ℕ) (rest : Heading → ℕ → Option Contents) → Inside 0 end found
     → ((h : Heading) (next : ℕ) → 0 < next → next ≤ end → more h next ≡ textOf (outputOf (rest h next)))
     → onMonth found more ≡ textOf (outputOf (monthAt found rest))
-unfolding onMonth monthAt
-on-month (Month year month points suppliers next) end more rest k same = same _ next (k .0) (k .1)
-on-month (Element start size next) end more rest k same = unfold outputOf in sym text-ended
-on-month (Message f next) end more rest k same = unfold outputOf in sym text-ended
+unfolding onMonth monthAt fieldSize
+on-month (Month year month points suppliers) end more rest k same = same _ monthSize (omega arith) (omega (arith, k .0))
+on-month (Element size) end more rest k same = unfold outputOf in sym text-ended
+on-month (Message f) end more rest k same = unfold outputOf in sym text-ended
 on-month End end more rest k same = unfold outputOf in sym text-ended
 on-month More end more rest k same = unfold outputOf in sym text-ended
 on-month Broken end more rest k same = unfold outputOf in sym text-ended

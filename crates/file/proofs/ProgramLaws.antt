@@ -1,6 +1,6 @@
 -- The bound on the number of fields in `messagesFrom` and `elementsFrom` cuts nothing: where it is above the number of bytes left, any
 -- other such bound prints the same. Each field that is found takes bytes away. Assumes nothing.
-use Prim.Native.Nat.{ℕ, zero, suc, _≤_, _<_}
+use Prim.Native.Nat.{ℕ, zero, suc, _+_, _≤_, _<_}
 use mathlib.Core.Path.{_≡_, refl, ap}
 use mathlib.Core.List.{List, [], _∷_, _++_}
 use lib.ListN.{length, take, drop, length-drop}
@@ -10,7 +10,7 @@ use Rattle.rules.specs.Effects.{step}
 use Rattle.file.specs.declared.fields.Phase.{Phase}
 use Rattle.file.specs.declared.fields.Found.{Found}
 use Rattle.file.specs.declared.fields.Found.the-variants.{Month, Element, Message, End, More, Broken}
-use Rattle.file.specs.Field.{fieldOf, Inside}
+use Rattle.file.specs.Field.{headerSize, messageSize, fieldOf, fieldSize, Inside}
 use Rattle.file.specs.Program.{answered, onMessage, messagesFrom, Heading, settleRecords, collected, openThen, onElement}
 use Rattle.file.specs.Program.{elementsFrom}
 use Rattle.file.proofs.FieldLaws.{inside-of}
@@ -20,12 +20,12 @@ use Rattle.file.proofs.FieldLaws.{inside-of}
 same-on-message : (found : Found) (w : World) (number end : ℕ) (f g : ℕ → World → List ℕ) → Inside 0 end found
     → ((next : ℕ) (after : World) → 0 < next → next ≤ end → f next after ≡ g next after)
     → onMessage found w number f ≡ onMessage found w number g
-unfolding onMessage
-same-on-message (Message fields next) w number end f g h same =
-    ap (λ (t : List ℕ). answered w fields number ++ t) (same next (step w fields settleRecords) (h .0) (h .1))
+unfolding onMessage fieldSize
+same-on-message (Message fields) w number end f g h same =
+    ap (λ (t : List ℕ). answered w fields number ++ t) (same messageSize (step w fields settleRecords) (omega arith) (omega (arith, h .0)))
 same-on-message End w number end f g h same = refl
-same-on-message (Month year month points suppliers next) w number end f g h same = refl
-same-on-message (Element start size next) w number end f g h same = refl
+same-on-message (Month year month points suppliers) w number end f g h same = refl
+same-on-message (Element size) w number end f g h same = refl
 same-on-message More w number end f g h same = refl
 same-on-message Broken w number end f g h same = refl
 
@@ -49,12 +49,12 @@ same-on-element : (found : Found) (bytes : List ℕ) (o : Heading) (values : Lis
     (p q : World → List ℕ) → Inside 0 end found
     → ((next : ℕ) (read : List (List ℕ)) → 0 < next → next ≤ end → f next read ≡ g next read) → p ≡ q
     → onElement found bytes o values f p ≡ onElement found bytes o values g q
-unfolding onElement
-same-on-element (Element start size next) bytes o values end f g p q h same e =
-    same next (values ++ (take size (drop start bytes) ∷ [])) (omega arith) (h .2)
-same-on-element (Message fields next) bytes o values end f g p q h same e = ap (λ (t : World → List ℕ). openThen (collected o values) t) e
+unfolding onElement fieldSize
+same-on-element (Element size) bytes o values end f g p q h same e =
+    same (headerSize + size) (values ++ (take size (drop headerSize bytes) ∷ [])) (omega arith) (omega (arith, h .0))
+same-on-element (Message fields) bytes o values end f g p q h same e = ap (λ (t : World → List ℕ). openThen (collected o values) t) e
 same-on-element End bytes o values end f g p q h same e = refl
-same-on-element (Month year month points suppliers next) bytes o values end f g p q h same e = refl
+same-on-element (Month year month points suppliers) bytes o values end f g p q h same e = refl
 same-on-element More bytes o values end f g p q h same e = refl
 same-on-element Broken bytes o values end f g p q h same e = refl
 

@@ -1,5 +1,5 @@
 -- What a file holds: a month with its elements, and messages in order. Read by the same steps as `settled`, with nothing settled.
-use Prim.Native.Nat.{ℕ, zero, suc}
+use Prim.Native.Nat.{ℕ, zero, suc, _+_}
 use mathlib.Core.Bool.{Bool, true, false}
 use mathlib.Core.List.{List, [], _∷_, _++_}
 use mathlib.Core.Option.{Option, none, some}
@@ -9,7 +9,7 @@ use Rattle.rules.specs.World.{Opening}
 use Rattle.file.specs.declared.fields.Phase.{Phase}
 use Rattle.file.specs.declared.fields.Found.{Found}
 use Rattle.file.specs.declared.fields.Found.the-variants.{Month, Element, Message, End, More, Broken}
-use Rattle.file.specs.Field.{fieldOf}
+use Rattle.file.specs.Field.{headerSize, monthSize, messageSize, fieldOf}
 use Rattle.file.specs.Program.{Heading, collected}
 
 -- ---- the messages
@@ -23,10 +23,10 @@ abbrev pub noMessages : (broken : Bool) → Messages
 noMessages broken = record { fields = []; broken = broken }
 
 unfoldable pub messagesAt : (found : Found) → (more : (next : ℕ) → Messages) → Messages
-messagesAt (Message f next) more = record { fields = f ∷ more next .fields; broken = more next .broken }
+messagesAt (Message f) more = record { fields = f ∷ more messageSize .fields; broken = more messageSize .broken }
 messagesAt End more = noMessages false
-messagesAt (Month year month points suppliers next) more = noMessages true
-messagesAt (Element start size next) more = noMessages true
+messagesAt (Month year month points suppliers) more = noMessages true
+messagesAt (Element size) more = noMessages true
 messagesAt More more = noMessages true
 messagesAt Broken more = noMessages true
 
@@ -43,10 +43,10 @@ pub record Contents : Type 0 where
 -- the book opens "at the first whole message field or the end"; a field that question 1 refuses before that leaves nothing to open
 unfoldable pub elementsAt : (found : Found) → (bytes : List ℕ) → (heading : Heading) → (values : List (List ℕ))
     → (more : (next : ℕ) → List (List ℕ) → Option Contents) → (messages : Messages) → Option Contents
-elementsAt (Element start size next) bytes h values more ms = more next (values ++ (take size (drop start bytes) ∷ []))
-elementsAt (Message f next) bytes h values more ms = some (record { opening = collected h values; messages = ms })
+elementsAt (Element size) bytes h values more ms = more (headerSize + size) (values ++ (take size (drop headerSize bytes) ∷ []))
+elementsAt (Message f) bytes h values more ms = some (record { opening = collected h values; messages = ms })
 elementsAt End bytes h values more ms = some (record { opening = collected h values; messages = noMessages false })
-elementsAt (Month year month points suppliers next) bytes h values more ms = none
+elementsAt (Month year month points suppliers) bytes h values more ms = none
 elementsAt More bytes h values more ms = none
 elementsAt Broken bytes h values more ms = none
 
@@ -58,10 +58,10 @@ elementsIn (suc most) bytes h values =
     (messagesIn (suc most) bytes)
 
 unfoldable pub monthAt : (found : Found) → (more : Heading → (next : ℕ) → Option Contents) → Option Contents
-monthAt (Month year month points suppliers next) more =
-    more (record { year = year; month = month; points = points; suppliers = suppliers }) next
-monthAt (Element start size next) more = none
-monthAt (Message f next) more = none
+monthAt (Month year month points suppliers) more =
+    more (record { year = year; month = month; points = points; suppliers = suppliers }) monthSize
+monthAt (Element size) more = none
+monthAt (Message f) more = none
 monthAt End more = none
 monthAt More more = none
 monthAt Broken more = none

@@ -106,7 +106,7 @@ messageFields bytes =
 
 -- "year 2, month 1, points 2, suppliers 1"
 unfoldable pub monthIn : (bytes : List ℕ) → Found
-monthIn bytes = Month (numberIn bytes 3 2) (numberIn bytes 5 1) (numberIn bytes 6 2) (numberIn bytes 8 1) monthSize
+monthIn bytes = Month (numberIn bytes 3 2) (numberIn bytes 5 1) (numberIn bytes 6 2) (numberIn bytes 8 1)
 
 -- a field that is whole and right
 unfoldable pub fieldNamed : (bytes : List ℕ) → Found
@@ -114,8 +114,8 @@ fieldNamed bytes =
     cond (eqb (tagOf bytes) monthTag)
     (monthIn bytes)
     (cond (eqb (tagOf bytes) elementTag)
-    (Element headerSize (lengthOf bytes) (headerSize + lengthOf bytes))
-    (Message (messageFields bytes) messageSize))
+    (Element (lengthOf bytes))
+    (Message (messageFields bytes)))
 
 unfoldable pub rightField : (phase : Phase) → (bytes : List ℕ) → Bool
 rightField phase bytes = headerRight phase (tagOf bytes) (lengthOf bytes) (marksIn bytes)
@@ -130,12 +130,21 @@ fieldOf (b ∷ bytes) phase = cond (wholeField (b ∷ bytes) && rightField phase
 
 -- the number of what was found: 1, question 1's, for a field that is broken
 abbrev pub foundNumber : Found → ℕ
-foundNumber (Month year month points suppliers next) = 0
-foundNumber (Element start length next) = 0
-foundNumber (Message fields next) = 0
+foundNumber (Month year month points suppliers) = 0
+foundNumber (Element length) = 0
+foundNumber (Message fields) = 0
 foundNumber End = 0
 foundNumber More = 0
 foundNumber Broken = 1
+
+-- how many bytes the field has: none where there is no whole one
+unfoldable pub fieldSize : Found → ℕ
+fieldSize (Month year month points suppliers) = monthSize
+fieldSize (Element length) = headerSize + length
+fieldSize (Message fields) = messageSize
+fieldSize End = 0
+fieldSize More = 0
+fieldSize Broken = 0
 
 -- ---- the same where the bytes in hand may not be all that is left
 
@@ -150,15 +159,6 @@ fieldIn bytes phase ended =
     (cond (wholeField bytes) (fieldNamed bytes) (cutOff (length bytes) ended))
     Broken)
 
--- a field that starts at a place
-unfoldable pub fieldFrom : (at : ℕ) → (found : Found) → Found
-fieldFrom at (Month year month points suppliers next) = Month year month points suppliers (at + next)
-fieldFrom at (Element start length next) = Element (at + start) length (at + next)
-fieldFrom at (Message fields next) = Message fields (at + next)
-fieldFrom at End = End
-fieldFrom at More = More
-fieldFrom at Broken = Broken
-
 -- the field at the front of the bytes has this tag and this length, the one that is due, and is whole
 pub record RightField (bytes : List ℕ) (tag length : ℕ) : Type 0 where
   pub tagged : tag ≡ tagOf bytes
@@ -166,11 +166,15 @@ pub record RightField (bytes : List ℕ) (tag length : ℕ) : Type 0 where
   pub due : length ≡ lengthDue tag (marksIn bytes)
   pub whole : headerSize + length ≤ lib.ListN.length bytes
 
--- a field that was found from place `at` on lies before place `end`, and the value of an element within it
+-- an element's value has a price at least
+abbrev pub Priced : Found → Type 0
+Priced (Month year month points suppliers) = T true
+Priced (Element size) = onePriceLength ≤ size
+Priced (Message fields) = T true
+Priced End = T true
+Priced More = T true
+Priced Broken = T true
+
+-- a field that was found at place `at` ends at place `end` or before
 abbrev pub Inside : (at end : ℕ) → (found : Found) → Type 0
-Inside at end (Month year month points suppliers next) = (at < next) × (next ≤ end)
-Inside at end (Element start size next) = (at < start) × (start + size ≡ next) × (next ≤ end) × (onePriceLength ≤ size)
-Inside at end (Message fields next) = (at < next) × (next ≤ end)
-Inside at end End = T true
-Inside at end More = T true
-Inside at end Broken = T true
+Inside at end found = (at + fieldSize found ≤ end) × Priced found

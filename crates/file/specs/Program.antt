@@ -1,5 +1,5 @@
 -- What the program `settle` prints for a whole input: document 01's "File and program", over the rules' definitions.
-use Prim.Native.Nat.{ℕ, zero, suc}
+use Prim.Native.Nat.{ℕ, zero, suc, _+_}
 use mathlib.Core.Bool.{cond}
 use mathlib.Core.List.{List, [], _∷_, _++_}
 use lib.IntN.{ℤ, pos}
@@ -15,7 +15,7 @@ use Rattle.rules.specs.Effects.{ask, answer, step, recordsOf}
 use Rattle.file.specs.declared.fields.Phase.{Phase}
 use Rattle.file.specs.declared.fields.Found.{Found}
 use Rattle.file.specs.declared.fields.Found.the-variants.{Month, Element, Message, End, More, Broken}
-use Rattle.file.specs.Field.{fieldOf, foundNumber}
+use Rattle.file.specs.Field.{headerSize, monthSize, messageSize, fieldOf, foundNumber}
 use Rattle.file.specs.Element.{pricesIn}
 use Rattle.file.specs.Lines.{bookLine, recordLine, refusedLine}
 
@@ -48,10 +48,10 @@ answered w f number =
 
 -- a message, and what is printed from the next field and the next world on
 unfoldable pub onMessage : (found : Found) → (world : World) → (number : ℕ) → (more : (next : ℕ) → World → List ℕ) → List ℕ
-onMessage (Message f next) w number more = answered w f number ++ more next (step w f settleRecords)
+onMessage (Message f) w number more = answered w f number ++ more messageSize (step w f settleRecords)
 onMessage End w number more = []
-onMessage (Month year month points suppliers next) w number more = endedBy 1
-onMessage (Element start size next) w number more = endedBy 1
+onMessage (Month year month points suppliers) w number more = endedBy 1
+onMessage (Element size) w number more = endedBy 1
 onMessage More w number more = endedBy 1
 onMessage Broken w number more = endedBy (foundNumber Broken)
 
@@ -128,10 +128,10 @@ openThen o more =
 -- "at the first whole message field or the end"; what is printed from the next element on, and from a message on
 unfoldable pub onElement : (found : Found) → (bytes : List ℕ) → (heading : Heading) → (values : List (List ℕ))
     → (more : (next : ℕ) → List (List ℕ) → List ℕ) → (messages : World → List ℕ) → List ℕ
-onElement (Element start size next) bytes h values more messages = more next (values ++ (take size (drop start bytes) ∷ []))
-onElement (Message f next) bytes h values more messages = openThen (collected h values) messages
+onElement (Element size) bytes h values more messages = more (headerSize + size) (values ++ (take size (drop headerSize bytes) ∷ []))
+onElement (Message f) bytes h values more messages = openThen (collected h values) messages
 onElement End bytes h values more messages = openThen (collected h values) (λ w. [])
-onElement (Month year month points suppliers next) bytes h values more messages = endedBy 1
+onElement (Month year month points suppliers) bytes h values more messages = endedBy 1
 onElement More bytes h values more messages = endedBy 1
 onElement Broken bytes h values more messages = endedBy (foundNumber Broken)
 
@@ -146,10 +146,10 @@ elementsFrom (suc most) bytes h values =
 
 -- "No tag 1 is question 1"
 unfoldable pub onMonth : (found : Found) → (more : Heading → (next : ℕ) → List ℕ) → List ℕ
-onMonth (Month year month points suppliers next) more =
-    more (record { year = year; month = month; points = points; suppliers = suppliers }) next
-onMonth (Element start size next) more = endedBy 1
-onMonth (Message f next) more = endedBy 1
+onMonth (Month year month points suppliers) more =
+    more (record { year = year; month = month; points = points; suppliers = suppliers }) monthSize
+onMonth (Element size) more = endedBy 1
+onMonth (Message f) more = endedBy 1
 onMonth End more = endedBy 1
 onMonth More more = endedBy 1
 onMonth Broken more = endedBy (foundNumber Broken)

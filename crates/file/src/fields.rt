@@ -8,9 +8,9 @@ use rules::PRICE_PLACES;
 ghost use mathlib.Core.Path.{_≡_};
 ghost use Prim.Native.Nat.{_+_, _≤_, _<_};
 ghost use lib.ListN.{length, take, drop};
-ghost use Rattle.file.specs.Bytes.{wordBytes, numberIn, twosComplement, placed};
+ghost use Rattle.file.specs.Bytes.{wordBytes, wordRoom, numberIn, twosComplement, placed};
 ghost use Rattle.file.specs.Field.{monthSize, messageSize, tagAllowed, elementLength, lengthDue, headerRight, cutOff};
-ghost use Rattle.file.specs.Field.{monthIn, messageFields, fieldNamed, RightField, fieldIn, fieldFrom};
+ghost use Rattle.file.specs.Field.{monthIn, messageFields, fieldNamed, RightField, fieldIn, fieldSize};
 ghost use Rattle.file.specs.Element.{priceAt, pricesIn, elementBytes, elementPrices, ElementRoom};
 ghost use Rattle.rules.specs.Lent.{left, was};
 ghost use Rattle.rules.specs.Sizes.{pricePlaces};
@@ -18,7 +18,7 @@ ghost use Rattle.rules.specs.Sizes.{pricePlaces};
 // ---- lengths are of values, sizes of whole fields
 
 // Tag and length.
-const HEADER_SIZE: usize = 3;
+pub const HEADER_SIZE: usize = 3;
 
 const MONTH_TAG: u64 = 1;
 
@@ -74,7 +74,7 @@ pub enum Phase {
     Messages,
 }
 
-// What stands at a place of the input. `next` is the place behind the field.
+// What stands at a place of the input.
 pub enum Found {
     // tag 1
     Month {
@@ -82,18 +82,14 @@ pub enum Found {
         month: u64,
         points: u64,
         suppliers: u64,
-        next: usize,
     },
-    // tag 2: its value starts at `start` and has `length` bytes
+    // tag 2: its value has `length` bytes
     Element {
-        start: usize,
         length: usize,
-        next: usize,
     },
     // tag 3
     Message {
         fields: Fields,
-        next: usize,
     },
     // the end of the input
     End,
@@ -164,14 +160,13 @@ fn cut_off(have: usize, ended: bool) -> Found
 // The month in a field at a place.
 fn month_at(s: &[u8], at: usize) -> Found
     requires { ⌜ at + monthSize ≤ length (now s) ⌝ }
-    ensures { λ r. ⌜ r ≡ fieldFrom at (monthIn (drop at (was s))) ⌝ }
+    ensures { λ r. ⌜ r ≡ monthIn (drop at (was s)) ⌝ }
 {
     Found::Month {
         year: number_at(s, at + 3, 2),
         month: number_at(s, at + 5, 1),
         points: number_at(s, at + 6, 2),
         suppliers: number_at(s, at + 8, 1),
-        next: at + MONTH_SIZE,
     }
 }
 
@@ -196,20 +191,15 @@ fn fields_at(s: &[u8], at: usize) -> Fields
 // A field that is whole and right.
 fn field_named(s: &[u8], at: usize, tag: u64, length: usize) -> Found
     requires { ⌜ RightField (drop at (now s)) tag length ⌝ }
-    ensures { λ r. ⌜ r ≡ fieldFrom at (fieldNamed (drop at (was s))) ⌝ }
+    ensures { λ r. ⌜ r ≡ fieldNamed (drop at (was s)) ⌝ }
 {
     if tag == MONTH_TAG {
         month_at(s, at)
     } else if tag == ELEMENT_TAG {
-        Found::Element {
-            start: at + HEADER_SIZE,
-            length,
-            next: at + (HEADER_SIZE + length),
-        }
+        Found::Element { length }
     } else {
         Found::Message {
             fields: fields_at(s, at),
-            next: at + MESSAGE_SIZE,
         }
     }
 }
@@ -217,7 +207,7 @@ fn field_named(s: &[u8], at: usize, tag: u64, length: usize) -> Found
 // The field at a place. Where the bytes do not reach to its end, `ended` says whether the input ends with them.
 pub fn field_at(s: &[u8], at: usize, phase: Phase, ended: bool) -> Found
     requires { ⌜ at ≤ length (now s) ⌝ }
-    ensures { λ r. ⌜ r ≡ fieldFrom at (fieldIn (drop at (was s)) phase ended) ⌝ }
+    ensures { λ r. ⌜ r ≡ fieldIn (drop at (was s)) phase ended ⌝ }
 {
     let have = s.len() - at;
     if have < HEAD_SIZE {
@@ -235,6 +225,27 @@ pub fn field_at(s: &[u8], at: usize, phase: Phase, ended: bool) -> Found
     } else {
         Found::Broken
     }
+}
+
+// How many bytes it has: none where there is no whole field.
+fn field_size(found: Found) -> usize
+    requires { ⌜ fieldSize found < wordRoom ⌝ }
+    ensures { λ r. ⌜ r ≡ fieldSize found ⌝ }
+{
+    match found {
+        Found::Month { .. } => MONTH_SIZE,
+        Found::Element { length } => HEADER_SIZE + length,
+        Found::Message { .. } => MESSAGE_SIZE,
+        _ => 0,
+    }
+}
+
+// The place behind a field that was found at a place.
+pub fn place_behind(at: usize, found: Found) -> usize
+    requires { ⌜ at + fieldSize found < wordRoom ⌝ }
+    ensures { λ r. ⌜ r ≡ at + fieldSize found ⌝ }
+{
+    at + field_size(found)
 }
 
 // ---- an element's value

@@ -20,6 +20,7 @@ use Rattle.settlement.specs.Replies.{roomIn, Replied}
 use Rattle.file.specs.declared.fields.Phase.{Phase}
 use Rattle.file.specs.declared.fields.Found.{Found}
 use Rattle.file.specs.declared.fields.Found.the-variants.{Month, Element, Message, End, More, Broken}
+use Rattle.file.specs.Field.{headerSize, fieldSize}
 use Rattle.file.specs.Lines.{refusedLine, longestLine, Written}
 use Rattle.file.specs.Program.{endedBy, settleRecords, settlePoints, answered, Heading, describedAll, pricesAll}
 use Rattle.file.proofs.PlacedLaws.{loosened}
@@ -55,25 +56,25 @@ no-values year month points suppliers t = record { book = refl; described = λ h
 
 pub arm-month : (at year month points suppliers next : ℕ) (bytes : List ℕ) (t : Lists) (out : List ℕ) (from : ℕ) (b : Book) (r : Advanced)
     → b ≡ namedBook year month points suppliers 0
-    → r ≡ advancedTo Phase.Elements false b 1 next from
-    → Advances (moveOn at start (Month year month points suppliers next) bytes) (r .progress) t out out (r .next) from (r .written)
-unfolding moveOn
-arm-month at year month points suppliers next bytes t out from b r f e =
+    → next ≡ at + fieldSize (Month year month points suppliers) → r ≡ advancedTo Phase.Elements false b 1 next from
+    → Advances (moveOn at start (Month year month points suppliers) bytes) (r .progress) t out out (r .next) from (r .written)
+unfolding moveOn fieldSize
+arm-month at year month points suppliers next bytes t out from b r f n e =
     rw (e, f) (record {
       holds = (refl, refl, no-values year month points suppliers t, refl);
       text = nothing-written longestText out from;
-      place = refl;
+      place = n;
     })
 
 -- an element
-pub arm-element : (at from size next : ℕ) (bytes : List ℕ) (h : Heading) (values : List (List ℕ)) (t : Lists) (out : List ℕ) (place : ℕ)
+pub arm-element : (at size next : ℕ) (bytes : List ℕ) (h : Heading) (values : List (List ℕ)) (t : Lists) (out : List ℕ) (place : ℕ)
     (b : Book) (r : Advanced)
-    → HoldsValues b (t .elementData) (t .prices) h (values ++ (take size (drop from bytes) ∷ []))
-    → r ≡ advancedTo Phase.Elements false b 1 next place
-    → Advances (moveOn at (elements h values) (Element from size next) bytes) (r .progress) t out out (r .next) place (r .written)
-unfolding moveOn
-arm-element at from size next bytes h values t out place b r v e =
-    rw e (record { holds = (refl, refl, v, refl); text = nothing-written longestText out place; place = refl })
+    → HoldsValues b (t .elementData) (t .prices) h (values ++ (take size (drop (at + headerSize) bytes) ∷ []))
+    → next ≡ at + fieldSize (Element size) → r ≡ advancedTo Phase.Elements false b 1 next place
+    → Advances (moveOn at (elements h values) (Element size) bytes) (r .progress) t out out (r .next) place (r .written)
+unfolding moveOn fieldSize
+arm-element at size next bytes h values t out place b r v n e =
+    rw e (record { holds = (refl, refl, v, refl); text = nothing-written longestText out place; place = n })
 
 -- one move for another
 pub advances-by : {m m′ : Move} {p : Progress} {t : Lists} {out after : List ℕ} {next from written : ℕ} → m ≡ m′
@@ -100,11 +101,11 @@ module _ (b : Book) (t : Lists) (e : Ends) (q : e ≡ endsOf b) (s : Sized t) (g
       → Replied (worldIn b (cutTo e t)) (worldIn (r .book) x) f r lent records
       → Whole (worldIn (r .book) x) → b .points ≤ settlePoints
       → (out after : List ℕ) (from : ℕ) (a : Advanced) → Written longestText out after from (a .written) (replyText r number records)
-      → a ≡ advancedTo Phase.Messages false (r .book) (number + 1) next (a .written)
-      → Advances (moveOn at (messages (frontsWorld b t) number) (Message f next) bytes) (a .progress) (putBack e t x) out after
+      → next ≡ at + fieldSize (Message f) → a ≡ advancedTo Phase.Messages false (r .book) (number + 1) next (a .written)
+      → Advances (moveOn at (messages (frontsWorld b t) number) (Message f) bytes) (a .progress) (putBack e t x) out after
       (a .next) from (a .written)
-  unfolding moveOn
-  arm-message at next number bytes lent records long p c k out after from a v z =
+  unfolding moveOn fieldSize
+  arm-message at next number bytes lent records long p c k out after from a v n z =
       let room : roomIn lent ≡ settleRecords = omega arith in
       let w : frontsWorld (r .book) (putBack e t x) ≡ step (frontsWorld b t) f settleRecords =
       message-world settleRecords (p .world ∙ ap (step (worldIn b (cutTo e t)) f) room) in
@@ -126,7 +127,7 @@ module _ (b : Book) (t : Lists) (e : Ends) (q : e ≡ endsOf b) (s : Sized t) (g
           ap (λ (y : Advanced). y .progress .number) z ∙ add-one number,
         );
         text = rw text at v;
-        place = ap (λ (y : Advanced). y .next) z;
+        place = ap (λ (y : Advanced). y .next) z ∙ n;
       }
 
 -- ---- more bytes are needed
@@ -137,9 +138,9 @@ wait-move at start More bytes m = refl
 wait-move at (elements h values) More bytes m = refl
 wait-move at (messages w n) More bytes m = refl
 wait-move at over More bytes m = refl
-wait-move at stage (Month year month points suppliers next) bytes m = never (sym m)
-wait-move at stage (Element from size next) bytes m = never (sym m)
-wait-move at stage (Message f next) bytes m = never (sym m)
+wait-move at stage (Month year month points suppliers) bytes m = never (sym m)
+wait-move at stage (Element size) bytes m = never (sym m)
+wait-move at stage (Message f) bytes m = never (sym m)
 wait-move at stage End bytes m = never (sym m)
 wait-move at stage Broken bytes m = never (sym m)
 

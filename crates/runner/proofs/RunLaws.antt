@@ -15,7 +15,7 @@ use Rattle.rules.proofs.Tests.{cases, both}
 use Rattle.file.specs.declared.fields.Phase.{Phase}
 use Rattle.file.specs.declared.fields.Found.{Found}
 use Rattle.file.specs.declared.fields.Found.the-variants.{Month, Element, Message, End, More, Broken}
-use Rattle.file.specs.Field.{tagOf, monthIn, fieldNamed, rightField, wholeField, fieldOf, fieldIn, fieldFrom, Inside}
+use Rattle.file.specs.Field.{tagOf, monthIn, fieldNamed, rightField, wholeField, fieldOf, fieldIn, fieldSize, Inside}
 use Rattle.file.specs.Program.{settleAnswer, collected, settled}
 use Rattle.file.proofs.FieldLaws.{whole-rest, front-decides, Undecided, inside-in, inside-at}
 use Rattle.runner.specs.declared.Progress.{Progress}
@@ -50,15 +50,6 @@ more-short bytes phase false m = ⊎-elim
     (λ (g : (rest : List ℕ) → fieldOf (bytes ++ rest) phase ≡ fieldIn bytes phase false). never
     (sym m ∙ ap isMore (sym (g [])) ∙ whole-not-more (bytes ++ []) phase))
     (front-decides bytes phase)
-
-from-more : (at : ℕ) (f : Found) → isMore (fieldFrom at f) ≡ isMore f
-unfolding isMore fieldFrom
-from-more at (Month year month points suppliers next) = refl
-from-more at (Element from size next) = refl
-from-more at (Message f next) = refl
-from-more at End = refl
-from-more at More = refl
-from-more at Broken = refl
 
 -- ---- what the test of a turn says
 
@@ -108,9 +99,6 @@ holds-weight p t (elements g values) left h = rw (h .0, h .1)
 holds-weight p t (messages w n) left h = rw (h .0, h .1)
 holds-weight p t over left h = rw h
 
-some-left : (at next end : ℕ) → at < next → next ≤ end → 2 * (end - next) < 2 * (end - at)
-some-left at next end h l = omega arith
-
 opened-falls : (at end : ℕ) (w : World) (last : Bool) → weightOf (openedTo last w) (end - at) < suc (2 * (end - at) + 1)
 unfolding weightOf
 opened-falls at end w true = omega arith
@@ -124,22 +112,22 @@ opening-falls at end o last = cases (eqb (settleAnswer o) 0) (λ t. rw t (opened
 
 falls : (at end : ℕ) (stage : Stage) (f : Found) (s : List ℕ) → Inside at end f → isMore f ≡ false → 0 < weightOf stage (end - at)
     → weightOf (moveOn at stage f s .stage) (end - moveOn at stage f s .next) < weightOf stage (end - at)
-unfolding moveOn broken isMore weightOf
-falls at end start (Month year month points suppliers next) s l m k = omega (arith, some-left at next end (l .0) (l .1))
-falls at end start (Element from size next) s l m k = omega arith
-falls at end start (Message f next) s l m k = omega arith
+unfolding moveOn broken isMore weightOf fieldSize
+falls at end start (Month year month points suppliers) s l m k = omega (arith, l .0)
+falls at end start (Element size) s l m k = omega arith
+falls at end start (Message f) s l m k = omega arith
 falls at end start End s l m k = omega arith
 falls at end start More s l m k = never m
 falls at end start Broken s l m k = omega arith
-falls at end (elements h values) (Month year month points suppliers next) s l m k = omega arith
-falls at end (elements h values) (Element from size next) s l m k = omega (arith, some-left at next end (omega arith) (l .2))
-falls at end (elements h values) (Message f next) s l m k = opening-falls at end (collected h values) false
+falls at end (elements h values) (Month year month points suppliers) s l m k = omega arith
+falls at end (elements h values) (Element size) s l m k = omega (arith, l .0)
+falls at end (elements h values) (Message f) s l m k = opening-falls at end (collected h values) false
 falls at end (elements h values) End s l m k = opening-falls at end (collected h values) true
 falls at end (elements h values) More s l m k = never m
 falls at end (elements h values) Broken s l m k = omega arith
-falls at end (messages w n) (Month year month points suppliers next) s l m k = omega arith
-falls at end (messages w n) (Element from size next) s l m k = omega arith
-falls at end (messages w n) (Message f next) s l m k = omega (arith, some-left at next end (l .0) (l .1))
+falls at end (messages w n) (Month year month points suppliers) s l m k = omega arith
+falls at end (messages w n) (Element size) s l m k = omega arith
+falls at end (messages w n) (Message f) s l m k = omega (arith, l .0)
 falls at end (messages w n) End s l m k = omega arith
 falls at end (messages w n) More s l m k = never m
 falls at end (messages w n) Broken s l m k = omega arith
@@ -207,7 +195,7 @@ module _ (ended : Bool) (s : List ℕ) (at : ℕ) (p₀ : Progress) (t₀ : List
         next-few : a .more ≡ true → (ended ≡ false) × (length s - a .next < longestField)
         next-few k =
             let z : isMore found ≡ true = sym m ∙ k in
-            let q = more-short (drop place s) (p .phase) ended (sym (from-more place (fieldIn (drop place s) (p .phase) ended)) ∙ z) in
+            let q = more-short (drop place s) (p .phase) ended z in
             let n : a .next ≡ place = turn .place ∙ ap (λ (x : Move). x .next) (wait-move place (stands .stage) found s z) in
             (q .0, rw n (omega (arith, rw length-drop at (q .1))))
 

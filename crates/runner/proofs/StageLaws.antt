@@ -8,13 +8,14 @@ use mathlib.Core.List.{List, [], _++_, append-nil}
 use lib.ListN.{length, drop, length-drop, length-append}
 use lib.Seq.{take-append-le, drop-append-le, drop-drop}
 use lib.Dec.{eqb}
+use native.Mathlib.Nat.{zero-add}
 use native.Mathlib.Omega.{arith}
 use Rattle.rules.specs.World.{Opening, World}
 use Rattle.rules.proofs.Tests.{cases}
 use Rattle.file.specs.declared.fields.Phase.{Phase}
 use Rattle.file.specs.declared.fields.Found.{Found}
 use Rattle.file.specs.declared.fields.Found.the-variants.{Month, Element, Message, End, More, Broken}
-use Rattle.file.specs.Field.{fieldOf, fieldIn, fieldFrom, Inside}
+use Rattle.file.specs.Field.{fieldOf, fieldIn, fieldSize, Inside}
 use Rattle.file.specs.Program.{endedBy, answered, onMessage, messagesFrom, Heading, collected, settleAnswer, openThen, onElement}
 use Rattle.file.specs.Program.{elementsFrom, onMonth, settled}
 use Rattle.file.proofs.FieldLaws.{whole-rest, front-decides, inside-in, Undecided}
@@ -60,23 +61,24 @@ module _ (bytes : List ℕ) where
       → fieldOf bytes (phaseOf stage) ≡ found
       → printed stage bytes ≡ moveOn 0 stage found bytes .text ++ printed (moveOn 0 stage found bytes .stage)
       (drop (moveOn 0 stage found bytes .next) bytes)
-  unfolding phaseOf printed moveOn broken isMore settled onMonth elementsFrom onElement messagesFrom onMessage
-  onward start (Month year month points suppliers next) m l e = rw e (elements-behind bytes next _ [] (l .0) (l .1))
-  onward start (Element from size next) m l e = rw e (behind (endedBy 1))
-  onward start (Message f next) m l e = rw e (behind (endedBy 1))
+  unfolding phaseOf printed moveOn broken isMore fieldSize settled onMonth elementsFrom onElement messagesFrom onMessage
+  onward start (Month year month points suppliers) m l e = rw e (elements-behind bytes 9 _ [] (omega arith) (omega (arith, l .0)))
+  onward start (Element size) m l e = rw e (behind (endedBy 1))
+  onward start (Message f) m l e = rw e (behind (endedBy 1))
   onward start End m l e = rw e (behind (endedBy 1))
   onward start More m l e = never m
   onward start Broken m l e = rw e (behind (endedBy 1))
-  onward (elements h values) (Month year month points suppliers next) m l e = rw e (behind (endedBy 1))
-  onward (elements h values) (Element from size next) m l e = rw e (elements-behind bytes next h _ (omega arith) (l .2))
-  onward (elements h values) (Message f next) m l e = rw e (opens (collected h values) bytes (openedTo false))
+  onward (elements h values) (Month year month points suppliers) m l e = rw e (behind (endedBy 1))
+  onward (elements h values) (Element size) m l e =
+      rw (e, zero-add (3 + size)) (elements-behind bytes (3 + size) h _ (omega arith) (omega (arith, l .0)))
+  onward (elements h values) (Message f) m l e = rw e (opens (collected h values) bytes (openedTo false))
   onward (elements h values) End m l e = rw e (opens (collected h values) bytes (openedTo true))
   onward (elements h values) More m l e = never m
   onward (elements h values) Broken m l e = rw e (behind (endedBy 1))
-  onward (messages w number) (Month year month points suppliers next) m l e = rw e (behind (endedBy 1))
-  onward (messages w number) (Element from size next) m l e = rw e (behind (endedBy 1))
-  onward (messages w number) (Message f next) m l e =
-      rw e (ap (λ (t : List ℕ). answered w f number ++ t) (messages-behind bytes next _ _ (l .0) (l .1)))
+  onward (messages w number) (Month year month points suppliers) m l e = rw e (behind (endedBy 1))
+  onward (messages w number) (Element size) m l e = rw e (behind (endedBy 1))
+  onward (messages w number) (Message f) m l e =
+      rw e (ap (λ (t : List ℕ). answered w f number ++ t) (messages-behind bytes 22 _ _ (omega arith) (omega (arith, l .0))))
   onward (messages w number) End m l e = rw e
   onward (messages w number) More m l e = never m
   onward (messages w number) Broken m l e = rw e (behind (endedBy 1))
@@ -87,25 +89,25 @@ module _ (bytes : List ℕ) where
 -- an element's value lies within the bytes in hand
 same-move : (stage : Stage) (found : Found) (front rest : List ℕ) → Inside 0 (length front) found
     → moveOn 0 stage found (front ++ rest) ≡ moveOn 0 stage found front
-unfolding moveOn
-same-move (elements h values) (Element from size next) front rest l =
-    let a : from ≤ length front = omega arith in
-    let b : size ≤ length (drop from front) = rw length-drop (omega arith) in
-    rw (drop-append-le from front rest a, take-append-le size (drop from front) rest b)
-same-move (elements h values) (Month year month points suppliers next) front rest l = refl
-same-move (elements h values) (Message f next) front rest l = refl
+unfolding moveOn fieldSize
+same-move (elements h values) (Element size) front rest l =
+    let a : 3 ≤ length front = omega (arith, l .0) in
+    let b : size ≤ length (drop 3 front) = rw length-drop (omega (arith, l .0)) in
+    rw (drop-append-le 3 front rest a, take-append-le size (drop 3 front) rest b)
+same-move (elements h values) (Month year month points suppliers) front rest l = refl
+same-move (elements h values) (Message f) front rest l = refl
 same-move (elements h values) End front rest l = refl
 same-move (elements h values) More front rest l = refl
 same-move (elements h values) Broken front rest l = refl
-same-move start (Month year month points suppliers next) front rest l = refl
-same-move start (Element from size next) front rest l = refl
-same-move start (Message f next) front rest l = refl
+same-move start (Month year month points suppliers) front rest l = refl
+same-move start (Element size) front rest l = refl
+same-move start (Message f) front rest l = refl
 same-move start End front rest l = refl
 same-move start More front rest l = refl
 same-move start Broken front rest l = refl
-same-move (messages w number) (Month year month points suppliers next) front rest l = refl
-same-move (messages w number) (Element from size next) front rest l = refl
-same-move (messages w number) (Message f next) front rest l = refl
+same-move (messages w number) (Month year month points suppliers) front rest l = refl
+same-move (messages w number) (Element size) front rest l = refl
+same-move (messages w number) (Message f) front rest l = refl
 same-move (messages w number) End front rest l = refl
 same-move (messages w number) More front rest l = refl
 same-move (messages w number) Broken front rest l = refl
@@ -118,22 +120,22 @@ opening-next o more = cases (eqb (settleAnswer o) 0) (λ t. rw t) (λ t. rw t)
 -- the next field begins within the bytes in hand, or at their end
 pub next-inside : (stage : Stage) (found : Found) (front : List ℕ) → Inside 0 (length front) found
     → moveOn 0 stage found front .next ≤ length front
-unfolding moveOn broken
-next-inside start (Month year month points suppliers next) front l = l .1
-next-inside start (Element from size next) front l = omega arith
-next-inside start (Message f next) front l = omega arith
+unfolding moveOn broken fieldSize
+next-inside start (Month year month points suppliers) front l = omega (arith, l .0)
+next-inside start (Element size) front l = omega arith
+next-inside start (Message f) front l = omega arith
 next-inside start End front l = omega arith
 next-inside start More front l = omega arith
 next-inside start Broken front l = omega arith
-next-inside (elements h values) (Month year month points suppliers next) front l = omega arith
-next-inside (elements h values) (Element from size next) front l = l .2
-next-inside (elements h values) (Message f next) front l = rw (opening-next (collected h values) (openedTo false)) (omega arith)
+next-inside (elements h values) (Month year month points suppliers) front l = omega arith
+next-inside (elements h values) (Element size) front l = omega (arith, l .0)
+next-inside (elements h values) (Message f) front l = rw (opening-next (collected h values) (openedTo false)) (omega arith)
 next-inside (elements h values) End front l = rw (opening-next (collected h values) (openedTo true)) (omega arith)
 next-inside (elements h values) More front l = omega arith
 next-inside (elements h values) Broken front l = omega arith
-next-inside (messages w number) (Month year month points suppliers next) front l = omega arith
-next-inside (messages w number) (Element from size next) front l = omega arith
-next-inside (messages w number) (Message f next) front l = l .1
+next-inside (messages w number) (Month year month points suppliers) front l = omega arith
+next-inside (messages w number) (Element size) front l = omega arith
+next-inside (messages w number) (Message f) front l = omega (arith, l .0)
 next-inside (messages w number) End front l = omega arith
 next-inside (messages w number) More front l = omega arith
 next-inside (messages w number) Broken front l = omega arith
@@ -148,19 +150,14 @@ waits start More front rest m = refl
 waits (elements h values) More front rest m = refl
 waits (messages w number) More front rest m = refl
 waits over More front rest m = refl
-waits stage (Month year month points suppliers next) front rest m = never (sym m)
-waits stage (Element from size next) front rest m = never (sym m)
-waits stage (Message f next) front rest m = never (sym m)
+waits stage (Month year month points suppliers) front rest m = never (sym m)
+waits stage (Element size) front rest m = never (sym m)
+waits stage (Message f) front rest m = never (sym m)
 waits stage End front rest m = never (sym m)
 waits stage Broken front rest m = never (sym m)
 
 wider : (found : Found) (n m : ℕ) → n ≤ m → Inside 0 n found → Inside 0 m found
-wider (Month year month points suppliers next) n m h l = (l .0, omega arith)
-wider (Element from size next) n m h l = (l .0, l .1, omega arith, l .3)
-wider (Message f next) n m h l = (l .0, omega arith)
-wider End n m h l = tt
-wider More n m h l = tt
-wider Broken n m h l = tt
+wider found n m h l = (omega (arith, l .0), l .1)
 
 decided : (front rest : List ℕ) (phase : Phase) (ended : Bool) → (ended ≡ true → rest ≡ []) → isMore (fieldIn front phase ended) ≡ false
     → fieldOf (front ++ rest) phase ≡ fieldIn front phase ended
@@ -181,23 +178,23 @@ unfolding opening broken
 opening-from at o more = let z : at ≡ at + 0 = omega arith in cases (eqb (settleAnswer o) 0) (λ t. rw (t, ← z)) (λ t. rw (t, ← z))
 
 pub move-from : (at : ℕ) (stage : Stage) (found : Found) (s : List ℕ)
-    → moveOn at stage (fieldFrom at found) s ≡ movedBy at (moveOn 0 stage found (drop at s))
-unfolding moveOn fieldFrom broken
-move-from at start (Month year month points suppliers next) s = refl
-move-from at start (Element from size next) s = let z : at ≡ at + 0 = omega arith in rw (← z)
-move-from at start (Message f next) s = let z : at ≡ at + 0 = omega arith in rw (← z)
+    → moveOn at stage found s ≡ movedBy at (moveOn 0 stage found (drop at s))
+unfolding moveOn broken
+move-from at start (Month year month points suppliers) s = refl
+move-from at start (Element size) s = let z : at ≡ at + 0 = omega arith in rw (← z)
+move-from at start (Message f) s = let z : at ≡ at + 0 = omega arith in rw (← z)
 move-from at start End s = let z : at ≡ at + 0 = omega arith in rw (← z)
 move-from at start More s = let z : at ≡ at + 0 = omega arith in rw (← z)
 move-from at start Broken s = let z : at ≡ at + 0 = omega arith in rw (← z)
-move-from at (elements h values) (Month year month points suppliers next) s = let z : at ≡ at + 0 = omega arith in rw (← z)
-move-from at (elements h values) (Element from size next) s = rw (drop-drop from at s)
-move-from at (elements h values) (Message f next) s = opening-from at (collected h values) (openedTo false)
+move-from at (elements h values) (Month year month points suppliers) s = let z : at ≡ at + 0 = omega arith in rw (← z)
+move-from at (elements h values) (Element size) s = rw (zero-add (3 + size), drop-drop 3 at s)
+move-from at (elements h values) (Message f) s = opening-from at (collected h values) (openedTo false)
 move-from at (elements h values) End s = opening-from at (collected h values) (openedTo true)
 move-from at (elements h values) More s = let z : at ≡ at + 0 = omega arith in rw (← z)
 move-from at (elements h values) Broken s = let z : at ≡ at + 0 = omega arith in rw (← z)
-move-from at (messages w number) (Month year month points suppliers next) s = let z : at ≡ at + 0 = omega arith in rw (← z)
-move-from at (messages w number) (Element from size next) s = let z : at ≡ at + 0 = omega arith in rw (← z)
-move-from at (messages w number) (Message f next) s = refl
+move-from at (messages w number) (Month year month points suppliers) s = let z : at ≡ at + 0 = omega arith in rw (← z)
+move-from at (messages w number) (Element size) s = let z : at ≡ at + 0 = omega arith in rw (← z)
+move-from at (messages w number) (Message f) s = refl
 move-from at (messages w number) End s = let z : at ≡ at + 0 = omega arith in rw (← z)
 move-from at (messages w number) More s = let z : at ≡ at + 0 = omega arith in rw (← z)
 move-from at (messages w number) Broken s = let z : at ≡ at + 0 = omega arith in rw (← z)
@@ -227,7 +224,7 @@ whole stage bytes found e = rw (append-nil bytes, append-nil (drop (moveOn 0 sta
 
 -- the step of a run over pieces, from a place of the bytes in hand on
 pub pieces : (stage : Stage) (s rest : List ℕ) (at : ℕ) (ended : Bool) → (ended ≡ true → rest ≡ []) → (m : Move)
-    → m ≡ moveOn at stage (fieldFrom at (fieldIn (drop at s) (phaseOf stage) ended)) s
+    → m ≡ moveOn at stage (fieldIn (drop at s) (phaseOf stage) ended) s
     → printed stage (drop at s ++ rest) ≡ m .text ++ printed (m .stage) (drop (m .next) s ++ rest)
 pieces stage s rest at ended h m e =
     let found = fieldIn (drop at s) (phaseOf stage) ended in

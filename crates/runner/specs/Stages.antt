@@ -1,5 +1,5 @@
 -- How far a run of `settle` has come, what is still printed for the bytes that are left, and what one field does.
-use Prim.Native.Nat.{ℕ, suc}
+use Prim.Native.Nat.{ℕ, suc, _+_}
 use mathlib.Core.Bool.{Bool, true, false, cond}
 use mathlib.Core.List.{List, [], _∷_, _++_}
 use lib.ListN.{length, take, drop}
@@ -10,7 +10,7 @@ use Rattle.rules.specs.Effects.{step}
 use Rattle.file.specs.declared.fields.Phase.{Phase}
 use Rattle.file.specs.declared.fields.Found.{Found}
 use Rattle.file.specs.declared.fields.Found.the-variants.{Month, Element, Message, End, More, Broken}
-use Rattle.file.specs.Field.{fieldIn, fieldFrom}
+use Rattle.file.specs.Field.{headerSize, monthSize, messageSize, fieldIn}
 use Rattle.file.specs.Lines.{bookLine}
 use Rattle.file.specs.Program.{endedBy, settleRecords, answered, messagesFrom, Heading, collected, lentFor}
 use Rattle.file.specs.Program.{settleAnswer, elementsFrom, settled}
@@ -68,23 +68,24 @@ opening at o more =
 
 -- a field that was found from a place of the bytes on; where the bytes in hand end within it, nothing yet
 unfoldable pub moveOn : (at : ℕ) → Stage → Found → (bytes : List ℕ) → Move
-moveOn at start (Month year month points suppliers next) bytes =
-    quiet (elements (record { year = year; month = month; points = points; suppliers = suppliers }) []) next
-moveOn at start (Element from size next) bytes = broken at 1
-moveOn at start (Message f next) bytes = broken at 1
+moveOn at start (Month year month points suppliers) bytes =
+    quiet (elements (record { year = year; month = month; points = points; suppliers = suppliers }) []) (at + monthSize)
+moveOn at start (Element size) bytes = broken at 1
+moveOn at start (Message f) bytes = broken at 1
 moveOn at start End bytes = broken at 1
 moveOn at start More bytes = quiet start at
 moveOn at start Broken bytes = broken at 1
-moveOn at (elements h values) (Month year month points suppliers next) bytes = broken at 1
-moveOn at (elements h values) (Element from size next) bytes = quiet (elements h (values ++ (take size (drop from bytes) ∷ []))) next
-moveOn at (elements h values) (Message f next) bytes = opening at (collected h values) (openedTo false)
+moveOn at (elements h values) (Month year month points suppliers) bytes = broken at 1
+moveOn at (elements h values) (Element size) bytes =
+    quiet (elements h (values ++ (take size (drop (at + headerSize) bytes) ∷ []))) (at + (headerSize + size))
+moveOn at (elements h values) (Message f) bytes = opening at (collected h values) (openedTo false)
 moveOn at (elements h values) End bytes = opening at (collected h values) (openedTo true)
 moveOn at (elements h values) More bytes = quiet (elements h values) at
 moveOn at (elements h values) Broken bytes = broken at 1
-moveOn at (messages w number) (Month year month points suppliers next) bytes = broken at 1
-moveOn at (messages w number) (Element from size next) bytes = broken at 1
-moveOn at (messages w number) (Message f next) bytes =
-    record { text = answered w f number; stage = messages (step w f settleRecords) (suc number); next = next }
+moveOn at (messages w number) (Month year month points suppliers) bytes = broken at 1
+moveOn at (messages w number) (Element size) bytes = broken at 1
+moveOn at (messages w number) (Message f) bytes =
+    record { text = answered w f number; stage = messages (step w f settleRecords) (suc number); next = at + messageSize }
 moveOn at (messages w number) End bytes = quiet over at
 moveOn at (messages w number) More bytes = quiet (messages w number) at
 moveOn at (messages w number) Broken bytes = broken at 1
@@ -92,22 +93,22 @@ moveOn at over found bytes = quiet over at
 
 -- the field at a place of the bytes in hand
 abbrev pub foundAt : List ℕ → (at : ℕ) → Phase → (ended : Bool) → Found
-foundAt s at phase ended = fieldFrom at (fieldIn (drop at s) phase ended)
+foundAt s at phase ended = fieldIn (drop at s) phase ended
 
 -- the bytes in hand end within a field
 unfoldable pub isMore : Found → Bool
-isMore (Month year month points suppliers next) = false
-isMore (Element from size next) = false
-isMore (Message f next) = false
+isMore (Month year month points suppliers) = false
+isMore (Element size) = false
+isMore (Message f) = false
 isMore End = false
 isMore More = true
 isMore Broken = false
 
 -- the end of the input
 unfoldable pub isEnd : Found → Bool
-isEnd (Month year month points suppliers next) = false
-isEnd (Element from size next) = false
-isEnd (Message f next) = false
+isEnd (Month year month points suppliers) = false
+isEnd (Element size) = false
+isEnd (Message f) = false
 isEnd End = true
 isEnd More = false
 isEnd Broken = false

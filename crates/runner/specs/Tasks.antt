@@ -7,17 +7,17 @@ use Rattle.runner.specs.declared.fields.Task.{Task}
 
 -- "The book opens .. at the first whole message field or the end"
 unfoldable pub openingTask : Found → Task
-openingTask (Month year month points suppliers next) = Task.Other
-openingTask (Element from size next) = Task.Other
-openingTask (Message f next) = Task.Open false
+openingTask (Month year month points suppliers) = Task.Other
+openingTask (Element size) = Task.Other
+openingTask (Message f) = Task.Open false
 openingTask End = Task.Open true
 openingTask More = Task.Other
 openingTask Broken = Task.Other
 
 unfoldable pub messageTask : Found → Task
-messageTask (Month year month points suppliers next) = Task.Other
-messageTask (Element from size next) = Task.Other
-messageTask (Message f next) = Task.Take f next
+messageTask (Month year month points suppliers) = Task.Other
+messageTask (Element size) = Task.Other
+messageTask (Message f) = Task.Take f
 messageTask End = Task.Other
 messageTask More = Task.Other
 messageTask Broken = Task.Other
@@ -29,5 +29,5 @@ taskOf Phase.Messages f = messageTask f
 
 unfoldable pub isOther : Task → Bool
 isOther (Task.Open last) = false
-isOther (Task.Take f next) = false
+isOther (Task.Take f) = false
 isOther Task.Other = true

@@ -7,7 +7,7 @@ ghost use lib.ListN.{length, take, drop};
 ghost use Rattle.rules.specs.Sizes.{mostElements, elementSize, pricePlaces};
 ghost use Rattle.rules.specs.Lent.{Lists, lendElements, left, was};
 ghost use Rattle.rules.specs.World.{World};
-ghost use Rattle.file.specs.Field.{Inside};
+ghost use Rattle.file.specs.Field.{fieldSize, Inside};
 ghost use Rattle.file.specs.Lines.{longestLine};
 ghost use Rattle.file.specs.Program.{Heading};
 ghost use Rattle.runner.specs.Stages.{Stage, start, elements, messages, broken, moveOn, isMore, isEnd};
@@ -18,6 +18,7 @@ use crate::Advanced;
 use crate::Progress;
 use crate::moved;
 use file::fields::Found;
+use file::fields::HEADER_SIZE;
 use file::fields::Phase;
 use file::fields::read_element;
 use file::output::put_refused;
@@ -32,7 +33,7 @@ pub enum Task {
     // the book opens; is the input at its end
     Open { last: bool },
     // a message of an open book
-    Take { fields: Fields, next: usize },
+    Take { fields: Fields },
     // anything else
     Other,
 }
@@ -51,8 +52,8 @@ fn opening_task(found: Found) -> Task
 fn message_task(found: Found) -> Task
     ensures { λ r. ⌜ r ≡ messageTask found ⌝ }
 {
-    if let Found::Message { fields, next } = found {
-        Task::Take { fields, next }
+    if let Found::Message { fields } = found {
+        Task::Take { fields }
     } else {
         Task::Other
     }
@@ -92,8 +93,15 @@ fn refuse(book: Book, at: usize, out: &mut [u8], from: usize) -> Advanced
     moved(Phase::Messages, true, book, 1, at, written)
 }
 
-fn on_start(book: Book, found: Found, at: usize, out: &mut [u8], from: usize) -> Advanced
-    requires { ⌜ (from + longestLine ≤ length (now out)) × (isMore found ≡ false) ⌝ }
+fn on_start(
+    book: Book,
+    found: Found,
+    at: usize,
+    place: usize,
+    out: &mut [u8],
+    from: usize,
+) -> Advanced
+    requires { ⌜ (from + longestLine ≤ length (now out)) × (isMore found ≡ false) × (place ≡ at + fieldSize found) ⌝ }
     ensures advances { λ r. ⌜ ((t : Lists) (bytes : List ℕ) →
         Advances (moveOn at start found bytes) (r .progress) t (was out) (left out) (r .next) from (r .written)) ⌝ }
     ensures done { λ r. ⌜ r .more ≡ false ⌝ }
@@ -103,7 +111,6 @@ fn on_start(book: Book, found: Found, at: usize, out: &mut [u8], from: usize) ->
         month,
         points,
         suppliers,
-        next,
     } = found
     else {
         return refuse(book, at, out, from);
@@ -113,7 +120,7 @@ fn on_start(book: Book, found: Found, at: usize, out: &mut [u8], from: usize) ->
         false,
         named_book(year, month, points, suppliers, 0),
         1,
-        next,
+        place,
         from,
     )
 }
@@ -160,6 +167,7 @@ fn gather(
     found: Found,
     s: &[u8],
     at: usize,
+    place: usize,
     element_data: &mut [u8],
     prices: &mut [i64],
     out: &mut [u8],
@@ -167,23 +175,18 @@ fn gather(
 ) -> Advanced
     requires { ⌜ (length (now element_data) ≡ mostElements * elementSize) × (length (now prices) ≡ mostElements * pricePlaces) ⌝ }
     requires { ⌜ Inside at (length (now s)) found × (isMore found ≡ false) × (isOther (openingTask found) ≡ true) ⌝ }
-    requires { ⌜ from + longestLine ≤ length (now out) ⌝ }
+    requires { ⌜ (from + longestLine ≤ length (now out)) × (place ≡ at + fieldSize found) ⌝ }
     ensures advances { λ r. ⌜ ((h : Heading) (values : List (List ℕ)) (o : Lists) →
         HoldsValues book (was element_data) (was prices) h values
         → Advances (moveOn at (elements h values) found (was s)) (r .progress) (lendElements (left element_data) (left prices) o)
         (was out) (left out) (r .next) from (r .written)) ⌝ }
     ensures done { λ r. ⌜ r .more ≡ false ⌝ }
 {
-    let Found::Element {
-        start,
-        length,
-        next,
-    } = found
-    else {
+    let Found::Element { length } = found else {
         return refuse(book, at, out, from);
     };
-    let after = take_element(book, s, start, length, element_data, prices);
-    moved(Phase::Elements, false, after, 1, next, from)
+    let after = take_element(book, s, at + HEADER_SIZE, length, element_data, prices);
+    moved(Phase::Elements, false, after, 1, place, from)
 }
 
 // The end, or a field that is not in its place.
@@ -216,6 +219,7 @@ pub fn take_field(
     found: Found,
     s: &[u8],
     at: usize,
+    place: usize,
     element_data: &mut [u8],
     prices: &mut [i64],
     out: &mut [u8],
@@ -223,7 +227,7 @@ pub fn take_field(
 ) -> Advanced
     requires { ⌜ (length (now element_data) ≡ mostElements * elementSize) × (length (now prices) ≡ mostElements * pricePlaces) ⌝ }
     requires { ⌜ Inside at (length (now s)) found × (isOther (taskOf (progress .phase) found) ≡ true) ⌝ }
-    requires { ⌜ (from + longestLine ≤ length (now out)) × (progress .over ≡ false) ⌝ }
+    requires { ⌜ (from + longestLine ≤ length (now out)) × (progress .over ≡ false) × (place ≡ at + fieldSize found) ⌝ }
     ensures advances { λ r. ⌜ ((o : Lists) (stage : Stage) → Represents progress (lendElements (was element_data) (was prices) o) stage
         → Advances (moveOn at stage found (was s)) (r .progress) (lendElements (left element_data) (left prices) o)
         (was out) (left out) (r .next) from (r .written)) ⌝ }
@@ -235,8 +239,8 @@ pub fn take_field(
     let book = progress.book;
     let phase = progress.phase;
     match phase {
-        Phase::Start => on_start(book, found, at, out, from),
-        Phase::Elements => gather(book, found, s, at, element_data, prices, out, from),
+        Phase::Start => on_start(book, found, at, place, out, from),
+        Phase::Elements => gather(book, found, s, at, place, element_data, prices, out, from),
         Phase::Messages => finish(book, found, at, out, from),
     }
 }

@@ -26,7 +26,7 @@ use crate::texts::message_done;
 use crate::texts::opening_done;
 use file::fields::Phase;
 use file::output::LONGEST_LINE;
-use file::reader::find;
+use file::reader::read;
 use recording::opening::fresh_book;
 use recording::opening::named_book;
 use rules::Book;
@@ -121,15 +121,17 @@ pub fn advance(
     ensures done { λ r. ⌜ r .more ≡ isMore (foundAt (was s) at (progress .phase) ended) ⌝ }
 {
     let phase = progress.phase;
-    let found = find(s, at, phase, ended);
+    let located = read(s, at, phase, ended);
+    let found = located.found;
+    let place = located.place;
     let book = progress.book;
     let task = task_of(phase, found);
     match task {
-        Task::Take { fields, next } => {
+        Task::Take { fields } => {
             let ends = ends_of(book);
             let described = ends.described;
             let priced = ends.priced;
-            let read = ends.readings;
+            let hourly = ends.readings;
             let blocked = ends.blocks;
             let lined = ends.lines;
             let reply = message(
@@ -139,14 +141,14 @@ pub fn advance(
                 links,
                 holders,
                 states,
-                &mut readings[..read],
+                &mut readings[..hourly],
                 &mut blocks[..blocked],
                 &mut lines[..lined],
                 &mut sent[..lined],
                 records,
                 fields,
             );
-            message_done(reply, progress.number, records, next, out, from)
+            message_done(reply, progress.number, records, place, out, from)
         }
         Task::Open { last } => {
             let question = number(ask_opening(book, element_data, prices));
@@ -163,7 +165,17 @@ pub fn advance(
             }
             opening_done(book, question, last, at, out, from)
         }
-        Task::Other => take_field(progress, found, s, at, element_data, prices, out, from),
+        Task::Other => take_field(
+            progress,
+            found,
+            s,
+            at,
+            place,
+            element_data,
+            prices,
+            out,
+            from,
+        ),
     }
 }
 

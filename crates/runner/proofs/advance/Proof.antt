@@ -1,20 +1,21 @@
 -- The field that was found asks for one of three things: a message of an open book, whose tables are the fronts of what is lent; the
 -- opening of the book, which clears them; or what its phase says.
 use mathlib.Core.Path.{_≡_, refl, sym, ap, subst, _∙_}
-use Prim.Native.Nat.{ℕ}
+use Prim.Native.Nat.{ℕ, _+_}
 use mathlib.Core.Bool.{true, false}
 use mathlib.Core.List.{List}
 use lib.ListN.{length}
 use lib.Seq.{length-take-le}
 use Rattle.rules.specs.Lent.{Lists, worldIn, given}
 use Rattle.file.specs.declared.fields.Found.{Found}
+use Rattle.file.specs.declared.reader.Located.{Located}
 use Rattle.runner.specs.Holding.{Represents}
 use Rattle.rules.specs.declared.Book.{Book}
 use Rattle.rules.specs.Whole.{Dated, Whole}
 use Rattle.rules.proofs.Parts.{dated}
 use Rattle.file.proofs.FieldLaws.{inside-at}
 use Rattle.runner.specs.declared.parts.Ends.{Ends}
-use Rattle.file.specs.Field.{Inside}
+use Rattle.file.specs.Field.{fieldSize, Inside}
 use Rattle.file.specs.Program.{Heading, collected, settleAnswer}
 use Rattle.runner.specs.declared.Advanced.{Advanced}
 use Rattle.runner.specs.Stages.{Stage, elements, messages, openedTo, opening as opening′, moveOn, foundAt, isMore}
@@ -41,7 +42,10 @@ abbrev asked-start : tie.After-task-of → tie.Start
 asked-start c = search
 
 abbrev found-of : tie.After-task-of → Found
-found-of c = let f : tie.After-find = search in f .find .result
+found-of c = let f : tie.After-read = search in f .read .result .found
+
+abbrev place-of : tie.After-task-of → ℕ
+place-of c = let f : tie.After-read = search in f .read .result .place
 
 task-is : (c : tie.After-task-of) → c .task-of .result ≡ taskOf (asked-start c .args .progress .phase) (found-of c)
 task-is c = c .task-of .ensures
@@ -49,7 +53,14 @@ task-is c = c .task-of .ensures
 found-is : (c : tie.After-task-of)
     → found-of c ≡ foundAt (asked-start c .args .s .now) (asked-start c .args .at) (asked-start c .args .progress .phase)
     (asked-start c .args .ended)
-found-is c = let f : tie.After-find = search in f .find .ensures
+found-is c = let f : tie.After-read = search in ap (λ (l : Located). l .found) (f .read .ensures)
+
+-- the reader's place behind it
+place-is : (c : tie.After-task-of) → place-of c ≡ asked-start c .args .at + fieldSize (found-of c)
+place-is c =
+    let f : tie.After-read = search in
+    ap (λ (l : Located). l .place) (f .read .ensures)
+    ∙ ap (λ (x : Found). asked-start c .args .at + fieldSize x) (sym (found-is c))
 
 -- ---- a message of an open book
 
@@ -60,8 +71,8 @@ abbrev start-of : tie.After-task → tie.Start
 start-of c = asked-start (asked-of c)
 
 taking : (c : tie.After-task)
-    → Takes (start-of c .args .progress .phase) (found-of (asked-of c)) (c .task .given .0 .0) (c .task .given .0 .1 .0)
-taking c = takes _ _ _ _ (sym (task-is (asked-of c)) ∙ c .task .given .1)
+    → Takes (start-of c .args .progress .phase) (found-of (asked-of c)) (c .task .given .0 .0)
+taking c = takes _ _ _ (sym (task-is (asked-of c)) ∙ c .task .given .1)
 
 standing : (c : tie.After-task) (stage : Stage) → Represents (start-of c .args .progress) (lent (start-of c)) stage
     → InMessages (start-of c .args .progress) (lent (start-of c)) (start-of c .pre .1 .1 .0 .0) stage
@@ -168,8 +179,8 @@ fresh-fits c =
     subst (λ (x : Book). Fitted x × Dated x) (sym (c .fresh-book .ensures))
     (fresh-ready (s .args .progress .book) (lent s) (s .pre .0) (sym (question-is numbered) ∙ fresh-passed c .if1 .taken))
 
-find-requires : tie.Need-find-requires
-find-requires c κs = search needs
+read-requires : tie.Need-read-requires
+read-requires c κs = search needs
 
 task-of-requires : tie.Need-task-of-requires
 task-of-requires c κs = search needs
@@ -338,7 +349,11 @@ returns c =
     )
 
 opening-done-requires-2 : tie.Need-opening-done-requires-2
-opening-done-requires-2 c κs = search needs
+opening-done-requires-2 c κs =
+    let no : tie.Else1 = search in
+    let numbered : tie.After-number = search in
+    let r = begun (opening-of numbered) .pre .1 .1 .1 .1 in
+    (λ z. absurd (no .if1 .left z), omega arith)
 
 enum-told : tie.Need-enum-told
 enum-told c = search needs
@@ -357,7 +372,7 @@ take-field-requires c κs =
               (inside-at (a .s .now) (a .at) (a .progress .phase) (a .ended) (s .pre .1 .1 .0 .2)),
           is-other known,
         ),
-        (omega arith, s .pre .1 .1 .0 .0),
+        (omega arith, s .pre .1 .1 .0 .0, place-is (other-asked known)),
       ),
     )
 
@@ -417,7 +432,8 @@ returns-2 c =
           (record { readings = omega (arith, k); blocks = omega (arith, k); lines = omega (arith, k); sent = omega (arith, k) }) _
           (replied .message .result)
           (a .at) _ (a .progress .number) (a .s .now) _ _ (s .pre .1 .1 .1 .0) (replied .message .ensures .0) (replied .message .ensures .1)
-          (open-book known .points) _ _ (a .from) (done .message-done .result) (e .0) (e .1)),
+          (open-book known .points) _ _ (a .from) (done .message-done .result) (e .0)
+          (place-is (asked-of known) ∙ ap (λ (f : Found). a .at + fieldSize f) (t .found-is)) (e .1)),
       ap (λ (r : Advanced). r .more) (e .1) ∙ sym m,
     )
 
@@ -471,7 +487,7 @@ pub advance-spec : {M : Type 1} → statement M
 advance-spec =
     tie.close
     (tie.spec
-    find-requires
+    read-requires
     task-of-requires
     enum-known-task
     ends-of-requires

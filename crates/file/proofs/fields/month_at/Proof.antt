@@ -1,5 +1,5 @@
 -- `month_at` meets its contract: a number at a place of the field is one at that place behind the field's own.
-use Rattle.file.specs.Field.{monthIn, fieldFrom}
+use Rattle.file.specs.Field.{monthIn}
 use Rattle.file.proofs.ByteLaws.{number-from}
 use borrow.Author.Needs.{needs}
 use Rattle.file.proofs.fields.month_at.Statement.{statement}
@@ -29,11 +29,8 @@ add-number-at-4 c = search needs
 number-at-requires-4 : tie.Need-number-at-requires-4
 number-at-requires-4 c κs = search needs
 
-add-t11 : tie.Need-add-t11
-add-t11 c = search needs
-
 returns : tie.Need-returns
-unfolding monthIn fieldFrom
+unfolding monthIn
 returns c =
     let start : tie.Start = search in
     let year : tie.After-number-at = search in
@@ -63,5 +60,4 @@ month-at-spec =
     number-at-requires-3
     add-number-at-4
     number-at-requires-4
-    add-t11
     returns)

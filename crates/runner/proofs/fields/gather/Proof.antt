@@ -1,5 +1,9 @@
 -- An element, whose value lies within the bytes, or a field that is not in its place.
-use mathlib.Core.Path.{ap}
+use Prim.Native.Nat.{_+_}
+use native.Mathlib.Omega.{arith}
+use mathlib.Core.Path.{ap, _∙_}
+use Rattle.file.specs.declared.fields.Found.{Found}
+use Rattle.file.specs.Field.{fieldSize}
 use Rattle.rules.specs.Lent.{lendElements}
 use Rattle.runner.specs.declared.Advanced.{Advanced}
 use Rattle.runner.proofs.FoundLaws.{elements-else, element-inside}
@@ -33,8 +37,14 @@ take-element-requires : tie.Need-take-element-requires
 take-element-requires c κs =
     let start : tie.Start = search in
     let known : tie.After-found = search in
-    let i = element-inside _ _ _ _ _ (start .args .found) (known .found .given .1) (start .pre .1 .0 .0) in
-    (i, start .pre .0)
+    (element-inside _ _ _ (start .args .found) (known .found .given .1) (start .pre .1 .0 .0), start .pre .0)
+
+add-take-element : tie.Need-add-take-element
+add-take-element c =
+    let start : tie.Start = search in
+    let known : tie.After-found = search in
+    let i = element-inside _ _ _ (start .args .found) (known .found .given .1) (start .pre .1 .0 .0) in
+    record { fits = omega (arith, i .0) }
 
 moved-requires : tie.Need-moved-requires
 moved-requires c κs = search needs
@@ -52,8 +62,8 @@ returns-2 c =
     let took : tie.After-take-element = search in
     let a = start .args in (
       λ h values o v. rw (known .found .given .1)
-          (arm-element (a .at) _ _ _ (a .s .now) h values (lendElements _ _ o) _ _ _ _ (took .take-element .ensures h values v)
-          (c .moved .ensures)),
+          (arm-element (a .at) _ _ (a .s .now) h values (lendElements _ _ o) _ _ _ _ (took .take-element .ensures h values v)
+          (start .pre .1 .1 .1 ∙ ap (λ (f : Found). a .at + fieldSize f) (known .found .given .1)) (c .moved .ensures)),
       ap (λ (r : Advanced). r .more) (c .moved .ensures),
     )
 
@@ -65,6 +75,7 @@ gather-spec =
     refuse-requires
     same-length
     returns
+    add-take-element
     take-element-requires
     moved-requires
     same-length-2

@@ -1,5 +1,8 @@
 -- The month, or a field that is not in its place.
-use mathlib.Core.Path.{ap}
+use Prim.Native.Nat.{_+_}
+use mathlib.Core.Path.{ap, _∙_}
+use Rattle.file.specs.declared.fields.Found.{Found}
+use Rattle.file.specs.Field.{fieldSize}
 use Rattle.runner.specs.declared.Advanced.{Advanced}
 use Rattle.runner.proofs.FoundLaws.{start-else}
 use Rattle.runner.proofs.ArmLaws.{arm-month}
@@ -38,7 +41,8 @@ returns-2 c =
     let known : tie.After-found = search in
     let named : tie.After-named-book = search in (
       λ t bytes. rw (known .found .given .1)
-          (arm-month (start .args .at) _ _ _ _ _ bytes t _ _ _ _ (named .named-book .ensures) (c .moved .ensures)),
+          (arm-month (start .args .at) _ _ _ _ _ bytes t _ _ _ _ (named .named-book .ensures)
+          (start .pre .2 ∙ ap (λ (f : Found). start .args .at + fieldSize f) (known .found .given .1)) (c .moved .ensures)),
       ap (λ (r : Advanced). r .more) (c .moved .ensures),
     )
 

@@ -47,7 +47,7 @@ on-start-requires c κs =
     let start : tie.Start = search in
     let told : tie.After-is-more = search in
     let no : tie.Else1 = search in
-    (start .pre .1 .1 .0, sym (told .is-more .ensures) ∙ no .if1 .left)
+    (start .pre .1 .1 .0, sym (told .is-more .ensures) ∙ no .if1 .left, start .pre .1 .1 .2)
 
 enum-told-2 : tie.Need-enum-told-2
 enum-told-2 c = search needs
@@ -65,7 +65,7 @@ gather-requires c κs =
           sym (told .is-more .ensures) ∙ no .if1 .left,
           other-opening (start .args .found) (start .args .progress .phase) (known .enum-told2 .given .1) (start .pre .1 .0 .1),
         ),
-        start .pre .1 .1 .0,
+        (start .pre .1 .1 .0, start .pre .1 .1 .2),
       ),
     )
 
