@@ -2,7 +2,7 @@
 -- was decided before the input's end does not depend on what follows. Everything is by cases on the tests, over the first six bytes.
 -- Assumes nothing.
 use Prim.Native.Nat.{ℕ, suc, _+_, _-_, _/_, _%_, _≤_, _<_}
-use mathlib.Core.Path.{_≡_, refl, sym, ap, _∙_}
+use mathlib.Core.Path.{_≡_, sym, ap, _∙_}
 use mathlib.Core.Logic.{_⊎_, inl, inr}
 use mathlib.Core.Bool.{Bool, true, false, _&&_, and-false}
 use mathlib.Core.List.{List, [], _∷_, _++_}
@@ -13,7 +13,7 @@ use borrow.Author.Tests.{lt-ltb, le-ltb, le-leb, lt-leb, eq-eqb, ne-eqb, ltb-tru
 use Rattle.rules.proofs.Tests.{cases, both}
 use Rattle.file.specs.declared.fields.Phase.{Phase}
 use Rattle.file.specs.declared.fields.Found.{Found}
-use Rattle.file.specs.declared.fields.Found.the-variants.{Month, Element, Message, End, More, Broken}
+use Rattle.file.specs.declared.fields.Found.the-variants.{More, Broken}
 use Rattle.file.specs.Bytes.{numberIn}
 use Rattle.file.specs.Field.{headerSize, hourlyLength, tagOf, lengthOf, marksIn, tagAllowed, elementLength, lengthDue, headerRight}
 use Rattle.file.specs.Field.{monthIn, messageFields, fieldNamed, rightField, wholeField, fieldOf, cutOff, fieldIn, fieldSize}

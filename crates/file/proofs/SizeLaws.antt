@@ -1,7 +1,6 @@
 -- How many bytes a found field has, where the code has told its cases apart by the tag. By cases.
-use Prim.Native.Nat.{ℕ}
 use mathlib.Core.Path.{_≡_, refl}
-use mathlib.Core.List.{List, [], _∷_}
+use mathlib.Core.List.{[], _∷_}
 use types.Run.{OneOf, miss}
 use denote.Enum.Declared.{tagOf}
 use Rattle.file.specs.declared.fields.Found.{Found}

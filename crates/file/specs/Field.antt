@@ -1,6 +1,6 @@
 -- One field of the file: "fields of a one-byte tag, a two-byte length, high byte first, and a value". Places are counted from the field's
 -- tag.
-use Prim.Native.Nat.{ℕ, _+_, _/_, _%_, _≤_, _<_}
+use Prim.Native.Nat.{ℕ, _+_, _/_, _%_, _≤_}
 use mathlib.Core.Path.{_≡_}
 use mathlib.Core.Bool.{Bool, true, _&&_, _||_, cond}
 use mathlib.Core.List.{List, [], _∷_}
@@ -9,12 +9,14 @@ use lib.Dec.{T, leb, ltb, eqb}
 use Rattle.rules.specs.Sizes.{elementSize}
 use Rattle.rules.specs.World.{hourly}
 use Rattle.rules.specs.declared.Fields.{Fields}
+use Rattle.rules.specs.declared.Answer.the-variants.{BrokenField}
+use Rattle.rules.specs.Answers.{numberOf}
 use Rattle.file.specs.declared.fields.Phase.{Phase}
 use Rattle.file.specs.declared.fields.Found.{Found}
 use Rattle.file.specs.declared.fields.Found.the-variants.{Month, Element, Message, End, More, Broken}
 use Rattle.file.specs.Bytes.{numberIn}
 
--- ---- lengths are of values, sizes of whole fields
+-- ---- by these names a length is a value's, and a size a whole field's
 
 -- tag and length
 abbrev pub headerSize : ℕ
@@ -135,7 +137,7 @@ foundNumber (Element length) = 0
 foundNumber (Message fields) = 0
 foundNumber End = 0
 foundNumber More = 0
-foundNumber Broken = 1
+foundNumber Broken = numberOf BrokenField
 
 -- how many bytes the field has: none where there is no whole one
 unfoldable pub fieldSize : Found → ℕ
@@ -169,12 +171,12 @@ pub record RightField (bytes : List ℕ) (tag length : ℕ) : Type 0 where
 -- an element's value has a price at least
 abbrev pub Priced : Found → Type 0
 Priced (Month year month points suppliers) = T true
-Priced (Element size) = onePriceLength ≤ size
+Priced (Element length) = onePriceLength ≤ length
 Priced (Message fields) = T true
 Priced End = T true
 Priced More = T true
 Priced Broken = T true
 
--- a field that was found at place `at` ends at place `end` or before
+-- a field that was found at place `at` ends at place `end` or before, and an element has a price
 abbrev pub Inside : (at end : ℕ) → (found : Found) → Type 0
 Inside at end found = (at + fieldSize found ≤ end) × Priced found

@@ -13,7 +13,7 @@ use Rattle.rules.specs.declared.Fields.{Fields}
 use Rattle.rules.specs.World.{World}
 use Rattle.rules.specs.Whole.{Whole}
 use Rattle.rules.specs.Effects.{step}
-use Rattle.rules.specs.Lent.{Lists, worldIn, lendElements, lendTables}
+use Rattle.rules.specs.Lent.{Lists, worldIn, lendTables}
 use Rattle.recording.specs.Opened.{namedBook}
 use Rattle.settlement.specs.declared.Reply.{Reply}
 use Rattle.settlement.specs.Replies.{roomIn, Replied}

@@ -4,6 +4,8 @@ use mathlib.Core.Option.{Option, none, some}
 use Rattle.rules.specs.declared.Sender.{Sender}
 use Rattle.rules.specs.declared.Body.{Body}
 use Rattle.rules.specs.declared.Message.{Message}
+use Rattle.rules.specs.declared.Answer.the-variants.{OutOfRange}
+use Rattle.rules.specs.Answers.{numberOf}
 use Rattle.validation.specs.declared.fields.FoundSender.{FoundSender}
 use Rattle.validation.specs.declared.fields.FoundBody.{FoundBody}
 use Rattle.validation.specs.declared.fields.Understood.{Understood}
@@ -22,4 +24,4 @@ foundMessage Understood.Refused = none
 
 abbrev pub understoodNumber : Understood → ℕ
 understoodNumber (Understood.Passed m) = 0
-understoodNumber Understood.Refused = 6
+understoodNumber Understood.Refused = numberOf OutOfRange

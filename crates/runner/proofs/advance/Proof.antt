@@ -19,7 +19,7 @@ use Rattle.file.specs.Field.{fieldSize, Inside}
 use Rattle.file.specs.Program.{Heading, collected, settleAnswer}
 use Rattle.runner.specs.declared.Advanced.{Advanced}
 use Rattle.runner.specs.Stages.{Stage, elements, messages, openedTo, opening as opening′, moveOn, foundAt, isMore}
-use Rattle.runner.specs.Parts.{Fitted, cutTo, fronts, frontsWorld, frontsOpening, anew}
+use Rattle.runner.specs.Parts.{Fitted, cutTo, fronts, frontsWorld, frontsOpening}
 use Rattle.runner.specs.Tasks.{taskOf, isOther}
 use Rattle.runner.proofs.PartLaws.{EndsFit, ends-fit, Within, within, whole-fitted}
 use Rattle.runner.proofs.OpenLaws.{open-month, fresh-ready, cleared-by, opening-advances}
