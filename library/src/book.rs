@@ -17,7 +17,8 @@
 //!   or `&self` holds them for the time of the call. Every number is an integer of
 //!   the same width on both sides, and no pointer is kept.
 
-use crate::{Counts, Element, Fields, Line, Month, Period, Question, Record, days_in_month};
+use crate::{Counts, Element, Fields, Line, Month, Period, Question, Record};
+use settlement_file::days_in_month;
 
 /// The numbers of a book, of a message, of a line and of a record.
 const BOOK_SIZE: usize = 11;
@@ -374,6 +375,16 @@ impl Book {
             year: self.numbers[0],
             month: self.numbers[1],
         }
+    }
+
+    /// The first day of the book's month.
+    pub fn first_day(&self) -> u64 {
+        self.numbers[9]
+    }
+
+    /// How many days the book's month has.
+    pub fn days(&self) -> u64 {
+        self.numbers[10]
     }
 
     /// The counts of the book.

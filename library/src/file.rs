@@ -13,6 +13,10 @@ impl Settle for Book {
         Book::open(month, counts, elements, prices).map_err(Question::number)
     }
 
+    fn dates(&self) -> (u64, u64) {
+        (self.days(), self.first_day())
+    }
+
     #[inline]
     fn message(&mut self, fields: &[u64; 9], each: impl FnMut([i64; 6])) -> Result<(), u64> {
         let records = Book::message(self, &Fields::from(*fields)).map_err(Question::number)?;

@@ -39,7 +39,7 @@ mod question;
 
 pub use book::Book;
 pub use question::Question;
-pub use settlement_file::{Counts, Element, Month, days_in_month, first_day};
+pub use settlement_file::{Counts, Element, Month};
 
 /// A message as it comes; the fields that its kind does not use are 0.
 #[derive(Clone, Copy, Debug, Default, PartialEq, Eq)]

@@ -13,6 +13,10 @@ impl Settle for Book {
         open(month, counts, elements, prices)
     }
 
+    fn dates(&self) -> (u64, u64) {
+        (self.days.into(), self.first_day.into())
+    }
+
     #[inline]
     fn message(&mut self, fields: &[u64; 9], each: impl FnMut([i64; 6])) -> Result<(), u64> {
         let mut records = Vec::new();

@@ -16,9 +16,9 @@ pub fn days_in_month(year: u64, month: u64) -> u64 {
 
 /// The first day of a month of the years 2000 to 2099.
 pub fn first_day(year: u64, month: u64) -> u64 {
-    let years = year.saturating_sub(2000);
-    let months: u64 = (1..month).map(|m| days_in_month(year, m)).sum();
-    years * 365 + years.div_ceil(4) + months
+    let years = (2000..year.min(2100)).flat_map(|y| (1..=12).map(move |m| (y, m)));
+    let months = (1..month).map(|m| (year, m));
+    years.chain(months).map(|(y, m)| days_in_month(y, m)).sum()
 }
 
 #[cfg(test)]

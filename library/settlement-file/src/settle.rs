@@ -1,6 +1,6 @@
 //! What `settle` prints for a file.
 
-use crate::{Counts, Element, Month, Opening, days_in_month, first_day};
+use crate::{Counts, Element, Month, Opening};
 use std::io::{Read, Write};
 use std::process::ExitCode;
 
@@ -17,6 +17,9 @@ pub trait Settle: Sized {
         elements: &[Element],
         prices: &[i64],
     ) -> Result<Self, u64>;
+
+    /// How many days its month has, and the first of them.
+    fn dates(&self) -> (u64, u64);
 
     /// Takes a message of kind, role, sender, received, point, element, day, hour and
     /// value. Where a round is accepted, hands out each of its records: kind, supplier,
@@ -42,7 +45,7 @@ fn run<B: Settle>(mut bytes: &[u8], most_points: u64, printed: &mut Vec<u8>) -> 
         return Err(OUT_OF_LIMITS);
     }
     let mut book = B::open(month, counts, &opening.elements, &opening.prices)?;
-    print_month(printed, month);
+    print_month(printed, month, book.dates());
     for (number, message) in (1..).zip(messages) {
         let answer = book.message(&message?.fields(), |record| print_record(printed, record));
         if let Err(question) = answer {
@@ -52,9 +55,8 @@ fn run<B: Settle>(mut bytes: &[u8], most_points: u64, printed: &mut Vec<u8>) -> 
     Ok(())
 }
 
-/// The line of an open book.
-pub fn print_month(printed: &mut Vec<u8>, Month { year, month }: Month) {
-    let (days, first) = (days_in_month(year, month), first_day(year, month));
+/// The line of an open book: its month, how many days that has, and the first of them.
+pub fn print_month(printed: &mut Vec<u8>, Month { year, month }: Month, (days, first): (u64, u64)) {
     print(
         printed,
         format_args!("book {year} {month} {days} {first}\n"),

@@ -56,7 +56,7 @@ fn settle(database: &str, lines: Lines) -> Result<(), String> {
         &opening.prices,
     )?;
     let mut printed = Vec::new();
-    print_month(&mut printed, opening.month);
+    print_month(&mut printed, opening.month, book.dates());
     let mut records = Vec::new();
     for message in messages {
         book.message(&message.map_err(broken)?.fields(), &mut records);
