@@ -62,13 +62,13 @@ text-ended = text-refused 0 1
 abbrev rest-text : World → Messages → (number : ℕ) → List ℕ
 rest-text w ms number = textOf (linesFrom w (ms .fields) number ++ endLines (ms .broken))
 
-on-message : (found : Found) (w : World) (number : ℕ) (more : ℕ → World → List ℕ) (rest : ℕ → Messages)
-    → ((next : ℕ) (after : World) → more next after ≡ rest-text after (rest next) (suc number))
+on-message : (found : Found) (w : World) (number : ℕ) (more : World → List ℕ) (rest : Messages)
+    → ((after : World) → more after ≡ rest-text after rest (suc number))
     → onMessage found w number more ≡ rest-text w (messagesAt found rest) number
 unfolding onMessage messagesAt linesFrom
 on-message (Message f) w number more rest h =
     rw (append-assoc (linesOf w f number), text-append (linesOf w f number), text-answered w f number)
-    (ap (λ (t : List ℕ). answered w f number ++ t) (h messageSize (step w f settleRecords)))
+    (ap (λ (t : List ℕ). answered w f number ++ t) (h (step w f settleRecords)))
 on-message End w number more rest h = unfold textOf in refl
 on-message (Month year month points suppliers) w number more rest h = sym text-ended
 on-message (Element size) w number more rest h = sym text-ended
@@ -80,9 +80,9 @@ messages-text : (most : ℕ) (bytes : List ℕ) (w : World) (number : ℕ)
 unfolding messagesFrom messagesIn
 messages-text zero bytes w number = unfold linesFrom textOf in refl
 messages-text (suc most) bytes w number = on-message (fieldOf bytes Phase.Messages) w number
-    (λ next after. messagesFrom most (drop next bytes) after (suc number))
-    (λ next. messagesIn most (drop next bytes))
-    (λ next after. messages-text most (drop next bytes) after (suc number))
+    (λ after. messagesFrom most (drop messageSize bytes) after (suc number))
+    (messagesIn most (drop messageSize bytes))
+    (λ after. messages-text most (drop messageSize bytes) after (suc number))
 
 -- ---- the opening
 
@@ -121,11 +121,11 @@ elements-text (suc most) bytes h values l = on-element (fieldOf bytes Phase.Elem
     (λ next read a b. elements-text most (drop next bytes) h read (shorter bytes next most l a b))
     (λ w. messages-text (suc most) bytes w 1)
 
-on-month : (found : Found) (end : ℕ) (more : Heading → ℕ → List ℕ) (rest : Heading → ℕ → Option Contents) → Inside 0 end found
-    → ((h : Heading) (next : ℕ) → 0 < next → next ≤ end → more h next ≡ textOf (outputOf (rest h next)))
+on-month : (found : Found) (end : ℕ) (more : Heading → List ℕ) (rest : Heading → Option Contents) → Inside 0 end found
+    → ((h : Heading) → monthSize ≤ end → more h ≡ textOf (outputOf (rest h)))
     → onMonth found more ≡ textOf (outputOf (monthAt found rest))
 unfolding onMonth monthAt fieldSize
-on-month (Month year month points suppliers) end more rest k same = same _ monthSize (omega arith) (omega (arith, k .0))
+on-month (Month year month points suppliers) end more rest k same = same _ (omega (arith, k .0))
 on-month (Element size) end more rest k same = unfold outputOf in sym text-ended
 on-month (Message f) end more rest k same = unfold outputOf in sym text-ended
 on-month End end more rest k same = unfold outputOf in sym text-ended
@@ -136,10 +136,10 @@ on-month Broken end more rest k same = unfold outputOf in sym text-ended
 pub settled-text : (bytes : List ℕ) → settled bytes ≡ textOf (outputOf (contentsOf bytes))
 unfolding settled contentsOf
 settled-text bytes = on-month (fieldOf bytes Phase.Start) (length bytes)
-    (λ h next. elementsFrom (length bytes) (drop next bytes) h [])
-    (λ h next. elementsIn (length bytes) (drop next bytes) h [])
+    (λ h. elementsFrom (length bytes) (drop monthSize bytes) h [])
+    (λ h. elementsIn (length bytes) (drop monthSize bytes) h [])
     (inside-of bytes Phase.Start)
-    (λ h next a b. elements-text (length bytes) (drop next bytes) h [] (shorter bytes next (length bytes) (omega arith) a b))
+    (λ h b. elements-text (length bytes) (drop monthSize bytes) h [] (shorter bytes monthSize (length bytes) (omega arith) (omega arith) b))
 
 -- ---- worlds and records
 

@@ -17,12 +17,12 @@ use Rattle.file.proofs.FieldLaws.{inside-of}
 
 -- ---- messages
 
-same-on-message : (found : Found) (w : World) (number end : ℕ) (f g : ℕ → World → List ℕ) → Inside 0 end found
-    → ((next : ℕ) (after : World) → 0 < next → next ≤ end → f next after ≡ g next after)
+same-on-message : (found : Found) (w : World) (number end : ℕ) (f g : World → List ℕ) → Inside 0 end found
+    → ((after : World) → messageSize ≤ end → f after ≡ g after)
     → onMessage found w number f ≡ onMessage found w number g
 unfolding onMessage fieldSize
 same-on-message (Message fields) w number end f g h same =
-    ap (λ (t : List ℕ). answered w fields number ++ t) (same messageSize (step w fields settleRecords) (omega arith) (omega (arith, h .0)))
+    ap (λ (t : List ℕ). answered w fields number ++ t) (same (step w fields settleRecords) (omega (arith, h .0)))
 same-on-message End w number end f g h same = refl
 same-on-message (Month year month points suppliers) w number end f g h same = refl
 same-on-message (Element size) w number end f g h same = refl
@@ -38,10 +38,11 @@ unfolding messagesFrom
 messages-enough zero k bytes w number h l = absurd (omega arith)
 messages-enough (suc m) zero bytes w number h l = absurd (omega arith)
 messages-enough (suc m) (suc k) bytes w number h l = same-on-message (fieldOf bytes Phase.Messages) w number (length bytes)
-    (λ next after. messagesFrom m (drop next bytes) after (suc number))
-    (λ next after. messagesFrom k (drop next bytes) after (suc number))
+    (λ after. messagesFrom m (drop messageSize bytes) after (suc number))
+    (λ after. messagesFrom k (drop messageSize bytes) after (suc number))
     (inside-of bytes Phase.Messages)
-    (λ next after a b. messages-enough m k (drop next bytes) after (suc number) (shorter bytes next m h a b) (shorter bytes next k l a b))
+    (λ after b. messages-enough m k (drop messageSize bytes) after (suc number) (shorter bytes messageSize m h (omega arith) b)
+    (shorter bytes messageSize k l (omega arith) b))
 
 -- ---- elements
 

@@ -22,8 +22,8 @@ pub record Messages : Type 0 where
 abbrev pub noMessages : (broken : Bool) → Messages
 noMessages broken = record { fields = []; broken = broken }
 
-unfoldable pub messagesAt : (found : Found) → (more : (next : ℕ) → Messages) → Messages
-messagesAt (Message f) more = record { fields = f ∷ more messageSize .fields; broken = more messageSize .broken }
+unfoldable pub messagesAt : (found : Found) → (more : Messages) → Messages
+messagesAt (Message f) more = record { fields = f ∷ more .fields; broken = more .broken }
 messagesAt End more = noMessages false
 messagesAt (Month year month points suppliers) more = noMessages true
 messagesAt (Element size) more = noMessages true
@@ -32,7 +32,7 @@ messagesAt Broken more = noMessages true
 
 unfoldable pub messagesIn : (most : ℕ) → (bytes : List ℕ) → Messages
 messagesIn zero bytes = noMessages false
-messagesIn (suc most) bytes = messagesAt (fieldOf bytes Phase.Messages) (λ next. messagesIn most (drop next bytes))
+messagesIn (suc most) bytes = messagesAt (fieldOf bytes Phase.Messages) (messagesIn most (drop messageSize bytes))
 
 -- ---- the file
 
@@ -57,9 +57,9 @@ elementsIn (suc most) bytes h values =
     (λ next read. elementsIn most (drop next bytes) h read)
     (messagesIn (suc most) bytes)
 
-unfoldable pub monthAt : (found : Found) → (more : Heading → (next : ℕ) → Option Contents) → Option Contents
+unfoldable pub monthAt : (found : Found) → (more : Heading → Option Contents) → Option Contents
 monthAt (Month year month points suppliers) more =
-    more (record { year = year; month = month; points = points; suppliers = suppliers }) monthSize
+    more (record { year = year; month = month; points = points; suppliers = suppliers })
 monthAt (Element size) more = none
 monthAt (Message f) more = none
 monthAt End more = none
@@ -67,4 +67,4 @@ monthAt More more = none
 monthAt Broken more = none
 
 unfoldable pub contentsOf : (bytes : List ℕ) → Option Contents
-contentsOf bytes = monthAt (fieldOf bytes Phase.Start) (λ h next. elementsIn (length bytes) (drop next bytes) h [])
+contentsOf bytes = monthAt (fieldOf bytes Phase.Start) (λ h. elementsIn (length bytes) (drop monthSize bytes) h [])

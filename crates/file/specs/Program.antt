@@ -46,9 +46,9 @@ answered w f number =
     (recordLines (recordsOf w f settleRecords))
     (refusedLine number (answer w f settleRecords))
 
--- a message, and what is printed from the next field and the next world on
-unfoldable pub onMessage : (found : Found) → (world : World) → (number : ℕ) → (more : (next : ℕ) → World → List ℕ) → List ℕ
-onMessage (Message f) w number more = answered w f number ++ more messageSize (step w f settleRecords)
+-- a message, and what is printed behind it from the next world on
+unfoldable pub onMessage : (found : Found) → (world : World) → (number : ℕ) → (more : World → List ℕ) → List ℕ
+onMessage (Message f) w number more = answered w f number ++ more (step w f settleRecords)
 onMessage End w number more = []
 onMessage (Month year month points suppliers) w number more = endedBy 1
 onMessage (Element size) w number more = endedBy 1
@@ -60,7 +60,7 @@ unfoldable pub messagesFrom : (most : ℕ) → (bytes : List ℕ) → (world : W
 messagesFrom zero bytes w number = []
 messagesFrom (suc most) bytes w number =
     onMessage (fieldOf bytes Phase.Messages) w number
-    (λ next after. messagesFrom most (drop next bytes) after (suc number))
+    (λ after. messagesFrom most (drop messageSize bytes) after (suc number))
 
 -- ---- the opening
 
@@ -145,9 +145,9 @@ elementsFrom (suc most) bytes h values =
 -- ---- the program
 
 -- "No tag 1 is question 1"
-unfoldable pub onMonth : (found : Found) → (more : Heading → (next : ℕ) → List ℕ) → List ℕ
+unfoldable pub onMonth : (found : Found) → (more : Heading → List ℕ) → List ℕ
 onMonth (Month year month points suppliers) more =
-    more (record { year = year; month = month; points = points; suppliers = suppliers }) monthSize
+    more (record { year = year; month = month; points = points; suppliers = suppliers })
 onMonth (Element size) more = endedBy 1
 onMonth (Message f) more = endedBy 1
 onMonth End more = endedBy 1
@@ -155,4 +155,4 @@ onMonth More more = endedBy 1
 onMonth Broken more = endedBy (foundNumber Broken)
 
 unfoldable pub settled : (bytes : List ℕ) → List ℕ
-settled bytes = onMonth (fieldOf bytes Phase.Start) (λ h next. elementsFrom (length bytes) (drop next bytes) h [])
+settled bytes = onMonth (fieldOf bytes Phase.Start) (λ h. elementsFrom (length bytes) (drop monthSize bytes) h [])

@@ -4,13 +4,10 @@ use mathlib.Core.Bool.{Bool}
 use mathlib.Core.List.{List}
 use lib.ListN.{drop}
 use Rattle.file.specs.declared.fields.Phase.{Phase}
-use Rattle.file.specs.declared.fields.Found.{Found}
 use Rattle.file.specs.declared.reader.Located.{Located}
 use Rattle.file.specs.Field.{fieldIn, fieldSize}
 
--- behind a field that was found at a place; where there is none the reader stays
-abbrev pub locatedFrom : (at : ℕ) → Found → Located
-locatedFrom at found = record { found = found; place = at + fieldSize found }
-
+-- the field at a place, and the place behind it; where there is none the reader stays
 abbrev pub locatedAt : (bytes : List ℕ) → (at : ℕ) → Phase → (ended : Bool) → Located
-locatedAt bytes at phase ended = locatedFrom at (fieldIn (drop at bytes) phase ended)
+locatedAt bytes at phase ended =
+    let found = fieldIn (drop at bytes) phase ended in record { found = found; place = at + fieldSize found }

@@ -19,14 +19,11 @@ use Rattle.file.specs.Field.{fieldOf, fieldIn, fieldSize, Inside}
 use Rattle.file.specs.Program.{endedBy, answered, onMessage, messagesFrom, Heading, collected, settleAnswer, openThen, onElement}
 use Rattle.file.specs.Program.{elementsFrom, onMonth, settled}
 use Rattle.file.proofs.FieldLaws.{whole-rest, front-decides, inside-in, Undecided}
-use Rattle.file.proofs.ProgramLaws.{messages-enough, elements-enough}
+use Rattle.file.proofs.ProgramLaws.{shorter, messages-enough, elements-enough}
 use Rattle.runner.specs.Stages.{Stage, start, elements, messages, over, phaseOf, printed, Move, broken, lineOf, openedTo, opening}
 use Rattle.runner.specs.Stages.{moveOn, isMore}
 
 -- ---- one field, where it is the one at the front of all the bytes that are left
-
-shorter : (bytes : List ℕ) (next : ℕ) → 0 < next → next ≤ length bytes → length (drop next bytes) < length bytes
-shorter bytes next a b = rw length-drop (omega arith)
 
 one-more : (n : ℕ) → n < suc n
 one-more n = omega arith
@@ -34,13 +31,15 @@ one-more n = omega arith
 elements-behind : (bytes : List ℕ) (next : ℕ) (h : Heading) (values : List (List ℕ)) → 0 < next → next ≤ length bytes
     → elementsFrom (length bytes) (drop next bytes) h values ≡ elementsFrom (suc (length (drop next bytes))) (drop next bytes) h values
 elements-behind bytes next h values a b =
-    elements-enough (length bytes) (suc (length (drop next bytes))) (drop next bytes) h values (shorter bytes next a b)
+    elements-enough (length bytes) (suc (length (drop next bytes))) (drop next bytes) h values
+    (shorter bytes next (length bytes) (one-more (length bytes)) a b)
     (one-more (length (drop next bytes)))
 
 messages-behind : (bytes : List ℕ) (next : ℕ) (w : World) (number : ℕ) → 0 < next → next ≤ length bytes
     → messagesFrom (length bytes) (drop next bytes) w number ≡ messagesFrom (suc (length (drop next bytes))) (drop next bytes) w number
 messages-behind bytes next w number a b =
-    messages-enough (length bytes) (suc (length (drop next bytes))) (drop next bytes) w number (shorter bytes next a b)
+    messages-enough (length bytes) (suc (length (drop next bytes))) (drop next bytes) w number
+    (shorter bytes next (length bytes) (one-more (length bytes)) a b)
     (one-more (length (drop next bytes)))
 
 pub never : {P : Type 0} → _≡_ {A = Bool} true false → P
