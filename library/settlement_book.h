@@ -190,8 +190,8 @@ uint64_t settlement_book_periods(
     uint64_t *place,
     uint64_t *count);
 
-/* A day of the month on which the point counts but for a missing holder and has a link. Answers 0, 2 to 5 or 7.
- * At 0 *day is such a day, or SETTLEMENT_BOOK_NO_DAY where there is none. */
+/* The earliest day of the month on which the point counts but for a missing holder and has a link. Answers 0, 2 to 5 or 7.
+ * At 0 *day is that day, or SETTLEMENT_BOOK_NO_DAY where there is none. */
 uint64_t settlement_book_day_without_holder(
     const uint64_t *book, size_t book_length,
     const uint8_t *element_data, size_t element_data_length,

@@ -337,8 +337,8 @@ impl Book {
         rows.iter().map(|word| Period::of_row(*word))
     }
 
-    /// A day of the month on which the point counts but for a missing holder and has a
-    /// link, if there is one; or question 7.
+    /// The earliest day of the month on which the point counts but for a missing holder
+    /// and has a link, if there is one; or question 7.
     #[inline]
     pub fn day_without_holder(&self, point: u64) -> Result<Option<u64>, Question> {
         let mut day = NO_DAY;

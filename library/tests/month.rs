@@ -1,5 +1,7 @@
-//! Document 01's listing through the library, what it refuses, and its two forms of
-//! each call against each other.
+//! Document 01's listing through the library, what it refuses, the earliest day without
+//! a holder, and its two forms of each call against each other.
+
+use std::collections::BTreeMap;
 
 use settlement_book::{Book, Counts, Element, Fields, Line, Month, Period, Question, Record};
 
@@ -8,6 +10,7 @@ const MARCH: Month = Month {
     month: 3,
 };
 const FIRST: u64 = 8826;
+const LAST: u64 = 8856;
 
 fn counts(points: u64, suppliers: u64, elements: u64) -> Counts {
     Counts {
@@ -142,6 +145,141 @@ fn queries_answer_or_name_the_question() {
     assert_eq!(book.day_without_holder(1), Err(Question::UnknownPoint));
 }
 
+const NOBODY: u64 = 0;
+const NEW: u64 = 1;
+const CONNECTED: u64 = 2;
+const DISCONNECTED: u64 = 3;
+const CLOSED: u64 = 4;
+const SUBSCRIPTION: u64 = 0;
+const FEE: u64 = 1;
+
+fn link(element: u64, day: u64) -> Fields {
+    told(1, 1, element, day, 0, 1)
+}
+
+fn holder(day: u64, supplier: u64) -> Fields {
+    told(4, 2, 0, day, 0, supplier)
+}
+
+fn state(day: u64, state: u64) -> Fields {
+    told(5, 1, 0, day, 0, state)
+}
+
+fn tell(book: &mut Book, message: Fields) {
+    assert_eq!(book.message(&message), Ok(&[][..]), "{message:?}");
+}
+
+/// March with two points, two suppliers, a subscription and a fee, after these messages
+/// about point 0.
+fn march(messages: &[Fields]) -> Book {
+    let elements = [element(1, 1, 0), element(2, 1, 0)];
+    let prices = prices(&[20_000_000, 150_000_000]);
+    let mut book = Book::open(MARCH, counts(2, 2, 2), &elements, &prices).unwrap();
+    for message in messages {
+        tell(&mut book, *message);
+    }
+    book
+}
+
+/// What both forms of the query for point 0 answer.
+fn earliest(book: &Book) -> Option<u64> {
+    let day = book.day_without_holder(0).unwrap();
+    assert_eq!(book.day_without_holder_checked(0), Ok(day));
+    day
+}
+
+/// A point that counts and is linked throughout the month, held by supplier 1 but on
+/// these days; the holder messages come in the order of the list.
+fn held_but_on(days: &[u64]) -> Book {
+    let mut book = march(&[
+        state(FIRST, CONNECTED),
+        link(SUBSCRIPTION, FIRST),
+        holder(FIRST, 1),
+    ]);
+    for &day in days {
+        if !days.contains(&(day + 1)) {
+            tell(&mut book, holder(day + 1, 1));
+        }
+        tell(&mut book, holder(day, NOBODY));
+    }
+    book
+}
+
+#[test]
+fn the_earliest_day_without_a_holder_is_named() {
+    for days in [
+        &[][..],
+        &[8840],
+        &[FIRST],
+        &[LAST],
+        &[8830, 8850],
+        &[8850, 8830],
+        &[FIRST, LAST],
+        &[LAST, FIRST],
+        &[8840, 8841],
+        &[8841, 8840],
+        &[8830, 8840, 8850],
+        &[8850, 8840, 8830],
+        &[8840, 8850, 8830],
+        &[LAST, 8840, FIRST],
+    ] {
+        let mut book = held_but_on(days);
+        // One works forward from it: a day that has found its holder is passed.
+        let mut left = days.to_vec();
+        left.sort();
+        for day in left {
+            assert_eq!(earliest(&book), Some(day), "{days:?}");
+            tell(&mut book, holder(day, 2));
+        }
+        assert_eq!(earliest(&book), None, "{days:?}");
+    }
+}
+
+#[test]
+fn before_any_holder_the_first_day_that_counts_with_a_link_is_named() {
+    let mut book = march(&[]);
+    assert_eq!(earliest(&book), None, "neither state nor link");
+    tell(&mut book, state(FIRST, CONNECTED));
+    assert_eq!(earliest(&book), None, "no link");
+    tell(&mut book, link(FEE, LAST));
+    assert_eq!(earliest(&book), Some(LAST), "a fee on the last day");
+    tell(&mut book, link(SUBSCRIPTION, 8830));
+    assert_eq!(earliest(&book), Some(8830));
+    tell(&mut book, link(FEE, FIRST));
+    assert_eq!(earliest(&book), Some(FIRST), "a fee on the first day");
+    tell(&mut book, holder(FIRST, 1));
+    assert_eq!(earliest(&book), None);
+}
+
+#[test]
+fn a_day_with_a_link_that_does_not_count_is_passed() {
+    let mut book = march(&[state(FIRST, NEW), link(SUBSCRIPTION, FIRST)]);
+    assert_eq!(earliest(&book), None, "new");
+    tell(&mut book, state(LAST, CONNECTED));
+    assert_eq!(earliest(&book), Some(LAST));
+    tell(&mut book, state(8835, DISCONNECTED));
+    assert_eq!(earliest(&book), Some(8835));
+    tell(&mut book, state(8835, CLOSED));
+    assert_eq!(earliest(&book), Some(LAST), "closed");
+    tell(&mut book, state(LAST, CLOSED));
+    assert_eq!(earliest(&book), None);
+}
+
+#[test]
+fn days_outside_the_month_are_not_named() {
+    let before = FIRST - 5;
+    let mut book = march(&[state(before, CONNECTED), link(SUBSCRIPTION, before)]);
+    tell(&mut book, holder(FIRST, 1));
+    assert_eq!(earliest(&book), None, "before");
+    tell(&mut book, holder(LAST + 1, NOBODY));
+    assert_eq!(earliest(&book), None, "after");
+    tell(&mut book, holder(LAST, NOBODY));
+    assert_eq!(earliest(&book), Some(LAST));
+    tell(&mut book, holder(FIRST, NOBODY));
+    assert_eq!(earliest(&book), Some(FIRST));
+    assert_eq!(book.day_without_holder(1), Ok(None), "the other point");
+}
+
 #[test]
 fn an_opening_names_the_question() {
     let tariff = [element(3, 1, 0)];
@@ -254,4 +392,86 @@ fn both_forms_of_each_call_agree() {
         assert_eq!(periods, other);
     }
     assert!(accepted > 5_000, "{accepted} accepted");
+}
+
+/// What one point has heard: holders and states by first day, and of each element its
+/// periods, first day and the day behind the last.
+#[derive(Clone, Default)]
+struct Heard {
+    holders: BTreeMap<u64, u64>,
+    states: BTreeMap<u64, u64>,
+    periods: [BTreeMap<u64, u64>; 4],
+}
+
+impl Heard {
+    fn hear(&mut self, message: &Fields, is_fee: bool) {
+        let day = message.day;
+        let periods = &mut self.periods[message.element as usize];
+        let next = periods.range(day + 1..).next();
+        let next = next.map_or(36_525, |(first, _)| *first);
+        let covering = periods.range_mut(..=day).next_back();
+        let covering = covering.filter(|(_, past)| **past > day);
+        match message.kind {
+            1 => {
+                let past = if is_fee { day + 1 } else { next };
+                periods.insert(day, past);
+            }
+            2 => {
+                if let Some((_, past)) = covering {
+                    *past = day;
+                }
+                periods.retain(|first, _| *first < day);
+            }
+            3 => {
+                let (_, past) = covering.unwrap();
+                let end = std::mem::replace(past, day);
+                periods.insert(day, end);
+            }
+            4 => drop(self.holders.insert(day, message.value)),
+            5 => drop(self.states.insert(day, message.value)),
+            _ => {}
+        }
+    }
+
+    fn lacks_holder(&self, day: u64) -> bool {
+        let on = |values: &BTreeMap<u64, u64>| {
+            let latest = values.range(..=day).next_back();
+            latest.map_or(0, |(_, value)| *value)
+        };
+        let covers = |(first, past): (&u64, &u64)| *first <= day && day < *past;
+        on(&self.holders) == 0
+            && [CONNECTED, DISCONNECTED].contains(&on(&self.states))
+            && self.periods.iter().flatten().any(covers)
+    }
+}
+
+#[test]
+fn the_earliest_day_is_that_of_the_messages_heard() {
+    let elements = [
+        element(1, 1, 0),
+        element(2, 1, 0),
+        element(3, 1, 0),
+        element(1, 1, 1),
+    ];
+    let prices = prices(&[21_000_000, 150_000_000, -30_000, 761_000]);
+    let mut random = Random(11);
+    let mut named = BTreeMap::new();
+    for _ in 0..400 {
+        let mut book = Book::open(MARCH, counts(4, 3, 4), &elements, &prices).unwrap();
+        let mut heard = vec![Heard::default(); 4];
+        for _ in 0..60 {
+            let message = random.message();
+            if book.message(&message).is_ok() && message.kind < 6 {
+                let is_fee = message.element == FEE;
+                heard[message.point as usize].hear(&message, is_fee);
+            }
+            for (point, heard) in heard.iter().enumerate() {
+                let day = (FIRST..=LAST).find(|day| heard.lacks_holder(*day));
+                assert_eq!(book.day_without_holder(point as u64), Ok(day));
+                *named.entry(day).or_insert(0) += 1;
+            }
+        }
+    }
+    let seldom = (FIRST..=LAST).find(|day| named.get(&Some(*day)).unwrap_or(&0) < &20);
+    assert_eq!(seldom, None, "{named:?}");
 }

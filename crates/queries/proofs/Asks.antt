@@ -1,8 +1,8 @@
 -- The questions of the queries, one after the other: those of the book, then the query's own. What has passed where none says no.
 use Prim.Native.Nat.{ℕ, _<_}
-use mathlib.Core.Path.{_≡_, sym, _∙_}
+use mathlib.Core.Path.{_≡_, sym}
 use lib.Dec.{ltb}
-use borrow.Author.Tests.{ltb-true, lt-ltb}
+use borrow.Author.Tests.{ltb-true}
 use native.Mathlib.Omega.{arith}
 use Rattle.rules.specs.Basics.{within}
 use Rattle.rules.specs.World.{World, InBook}
@@ -27,11 +27,6 @@ module _ (w : World) where
     pub day-asks : (p : ℕ) → ask (ltb p (w .opening .points)) 7 0 ≡ dayNumber w p
     unfolding dayNumber
     day-asks p = sym (whole-asked w h _)
-
-    -- a point of it
-    pub day-open : (p : ℕ) → p < w .opening .points → dayNumber w p ≡ 0
-    unfolding ask
-    day-open p l = sym (day-asks p) ∙ rw (lt-ltb _ _ l)
 
   -- the book is whole, and the rest has passed
   pub line-passed : (s e : ℕ) → lineNumber w s e ≡ 0 → Whole w × InBook (w .opening) s e

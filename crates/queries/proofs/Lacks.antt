@@ -1,22 +1,24 @@
--- The search for a day without a holder: some element, place by place, and the days of the month, one by one. No day outside the month is
--- meant.
-use Prim.Native.Nat.{ℕ, zero, suc, _+_, _≤_, _<_}
+-- The search for the earliest day without a holder: some element, place by place, and the days of the month, one by one.
+use Prim.Native.Nat.{ℕ, zero, suc, _+_, _-_, _≤_, _<_}
 use mathlib.Core.Path.{_≡_, refl, sym, _∙_}
 use mathlib.Core.Logic.{_≢_}
 use mathlib.Core.Bool.{Bool, true, false, not}
 use mathlib.Core.List.{List}
-use lib.Dec.{eqb, leb, ltb}
-use borrow.Author.Tests.{eqb-true, ne-eqb, le-leb, lt-ltb}
+use mathlib.Core.Option.{Option, none, some}
+use lib.Dec.{eqb}
+use borrow.Author.Tests.{eqb-true, ne-eqb}
 use native.Mathlib.Omega.{arith}
 use native.Mathlib.Numerals.{add-one}
-use Rattle.calendar.specs.Gregorian.{firstDay, daysOfMonth}
+use Rattle.calendar.specs.Gregorian.{InRange, firstDay, daysOfMonth}
+use Rattle.calendar.proofs.MonthLaws.{month-within}
 use Rattle.rules.specs.declared.Book.{Book}
-use Rattle.rules.specs.Basics.{anyTo}
+use Rattle.rules.specs.Basics.{anyTo, firstFrom}
 use Rattle.rules.specs.Rows.{quantityOn}
+use Rattle.rules.specs.Sizes.{endOfDays}
 use Rattle.rules.specs.World.{Opening, Tables, monthFirst, monthDays, holderOn, stateOn, countingState, linkedOn}
-use Rattle.rules.specs.Questions.{question16}
-use Rattle.rules.specs.Queries.{dayNumber, lacksHolder}
+use Rattle.rules.specs.Queries.{dayNumber, lacksHolder, earliestLacking}
 use Rattle.rules.proofs.Tests.{tests, cases}
+use Rattle.rules.proofs.DayQuery.{first-here, first-next}
 use Rattle.rules.specs.Lent.{Lists, worldIn, openingIn, tablesIn, lendRows}
 use Rattle.rules.proofs.Parts.{lengths, dated}
 use Rattle.tables.proofs.Right.{whole-rows}
@@ -48,71 +50,73 @@ module _ (f : ℕ → Bool) where
       absurd (let x : _≡_ {A = ℕ} 0 1 = cc in omega arith))
       (λ e. any-true n i (omega (arith, tests)) t)))
 
--- ---- a day
+-- ---- a day, by the holder, the state and the links
 
-module _ (o : Opening) (t : Tables) (p : ℕ) where
-  in-month : (d : ℕ) → monthFirst o ≤ d → d < monthFirst o + monthDays o → question16 o d ≡ true
-  unfolding question16
-  in-month d h k = rw (le-leb _ _ h, lt-ltb _ _ k)
-
-  -- a day of the month: by the holder, the state and the links
-  module _ (d : ℕ) (h : monthFirst o ≤ d) (k : d < monthFirst o + monthDays o) where
-    pub by-links : holderOn t p d ≡ 0 → countingState (stateOn t p d) ≡ true
-        → anyTo (λ e. linkedOn t p e d) (o .elements) ≡ lacksHolder o t p d
-    unfolding lacksHolder
-    by-links a b = rw (in-month d h k, a, b)
-
-    pub by-state : holderOn t p d ≡ 0 → countingState (stateOn t p d) ≡ false → false ≡ lacksHolder o t p d
-    unfolding lacksHolder
-    by-state a b = rw (in-month d h k, a, b)
-
-    pub by-holder : holderOn t p d ≢ 0 → false ≡ lacksHolder o t p d
-    unfolding lacksHolder
-    by-holder a = rw (in-month d h k, ne-eqb _ _ a)
-
-  outside : (d : ℕ) → question16 o d ≡ false → lacksHolder o t p d ≡ false
+module _ (o : Opening) (t : Tables) (p d : ℕ) where
+  pub by-links : holderOn t p d ≡ 0 → countingState (stateOn t p d) ≡ true
+      → anyTo (λ e. linkedOn t p e d) (o .elements) ≡ lacksHolder o t p d
   unfolding lacksHolder
-  outside d h = rw h
+  by-links a b = rw (a, b)
 
-  -- where no day of the month is one, none is
-  pub none-lacks : ((d : ℕ) → monthFirst o ≤ d → d < monthFirst o + monthDays o → lacksHolder o t p d ≡ false)
-      → (d : ℕ) → lacksHolder o t p d ≡ false
-  none-lacks h d = cases (leb (monthFirst o) d)
-      (λ a. cases (ltb d (monthFirst o + monthDays o))
-      (λ b. h d (omega (arith, tests)) (omega (arith, tests)))
-      (λ b. outside d (unfold question16 in rw (a, b))))
-      (λ a. outside d (unfold question16 in rw a))
+  pub by-state : holderOn t p d ≡ 0 → countingState (stateOn t p d) ≡ false → false ≡ lacksHolder o t p d
+  unfolding lacksHolder
+  by-state a b = rw (a, b)
+
+  pub by-holder : holderOn t p d ≢ 0 → false ≡ lacksHolder o t p d
+  unfolding lacksHolder
+  by-holder a = rw (ne-eqb _ _ a)
 
 -- ---- the days, one by one
 
--- no day of the month before this one is one
-pub record Searched (b : Book) (links holders states : List ℕ) (p end day : ℕ) : Type 0 where
-  pub from : firstDay (b .year) (b .month) ≤ day
-  pub upto : day ≤ end
-  pub last : end ≡ firstDay (b .year) (b .month) + daysOfMonth (b .year) (b .month)
-  pub none : (d : ℕ) → firstDay (b .year) (b .month) ≤ d → d < day → (o : Lists)
-      → lacksHolder (openingIn b o) (tablesIn b (lendRows links holders states o)) p d ≡ false
+-- what the lent rows, with whatever else is lent, say of a day, and of the month
+abbrev pub lacksBy : (b : Book) → (links holders states : List ℕ) → (point : ℕ) → Lists → (day : ℕ) → Bool
+lacksBy b links holders states p o = let t = lendRows links holders states o in lacksHolder (openingIn b t) (tablesIn b t) p
 
-module _ (b : Book) (links holders states : List ℕ) (p end day : ℕ) where
-  pub searched-more : Searched b links holders states p end day → day < end
-      → ((o : Lists) → lacksHolder (openingIn b o) (tablesIn b (lendRows links holders states o)) p day ≡ false)
-      → Searched b links holders states p end (day + 1)
-  searched-more s l h =
-      let f = s .from in
-      record {
-        from = omega arith;
-        upto = omega arith;
-        last = s .last;
-        none = λ d i j o. cases (eqb d day)
-            (λ e. rw (eqb-true d day e) (h o))
-            (λ e. s .none d i (omega (arith, tests)) o);
-      }
+abbrev pub earliestBy : (b : Book) → (links holders states : List ℕ) → (point : ℕ) → Lists → Option ℕ
+earliestBy b links holders states p o = let t = lendRows links holders states o in earliestLacking (openingIn b t) (tablesIn b t) p
 
-  pub searched-all : Searched b links holders states p end day → end ≤ day → (o : Lists)
-      → (d : ℕ) → lacksHolder (openingIn b o) (tablesIn b (lendRows links holders states o)) p d ≡ false
-  unfolding monthFirst monthDays
-  searched-all s l o = none-lacks (openingIn b o) (tablesIn b (lendRows links holders states o)) p
-      (λ d i j. let e = s .last in let u = s .upto in s .none d i (omega arith) o)
+-- the answer is among the days of the month from a date on
+pub record Searched (b : Book) (links holders states : List ℕ) (p first days date : ℕ) : Type 0 where
+  pub from : 1 ≤ date
+  pub upto : date ≤ days + 1
+  pub last : first + days ≤ endOfDays
+  pub left : (o : Lists) → firstFrom (lacksBy b links holders states p o) (first + (date - 1)) (days - (date - 1))
+      ≡ earliestBy b links holders states p o
+
+module _ (b : Book) (links holders states : List ℕ) (p first days : ℕ) where
+  pub searched-from : InRange (b .year) (b .month) → first ≡ firstDay (b .year) (b .month) → days ≡ daysOfMonth (b .year) (b .month)
+      → Searched b links holders states p first days 1
+  unfolding earliestLacking monthFirst monthDays
+  searched-from m f d =
+      let w = month-within (b .year) (b .month) m in
+      let e : first + (1 - 1) ≡ firstDay (b .year) (b .month) = omega arith in
+      let k : days - (1 - 1) ≡ daysOfMonth (b .year) (b .month) = omega arith in
+      record { from = omega arith; upto = omega arith; last = omega arith; left = λ o. rw (e, k) }
+
+  module _ (date : ℕ) (s : Searched b links holders states p first days date) where
+    pub searched-here : date ≤ days → (o : Lists) → lacksBy b links holders states p o (first + (date - 1)) ≡ true
+        → some (first + (date - 1)) ≡ earliestBy b links holders states p o
+    searched-here l o h =
+        let f = s .from in
+        sym (first-here _ (first + (date - 1)) (days - (date - 1)) (omega arith) h) ∙ s .left o
+
+    pub searched-more : date ≤ days → ((o : Lists) → lacksBy b links holders states p o (first + (date - 1)) ≡ false)
+        → Searched b links holders states p first days (date + 1)
+    searched-more l h =
+        let f = s .from in
+        let e : first + (date - 1) + 1 ≡ first + (date + 1 - 1) = omega arith in
+        let k : days - (date - 1) - 1 ≡ days - (date + 1 - 1) = omega arith in
+        record {
+          from = omega arith;
+          upto = omega arith;
+          last = s .last;
+          left = λ o. rw (← e, ← k)
+              (sym (first-next _ (first + (date - 1)) (days - (date - 1)) (omega arith) (h o)) ∙ s .left o);
+        }
+
+    pub searched-all : days < date → (o : Lists) → none ≡ earliestBy b links holders states p o
+    unfolding firstFrom
+    searched-all l o = let e : days - (date - 1) ≡ 0 = omega arith in rw e at (s .left o)
 
 -- what the search needs, where no question says no
 pub point-asked : (b : Book) (o : Lists) (p : ℕ) → dayNumber (worldIn b o) p ≡ 0 → PointAsked b (o .links) (o .holders) (o .states) p

@@ -1,10 +1,9 @@
--- What the search for a day without a holder needs: rows in order, a point of the book, and days of the month.
-use Prim.Native.Nat.{ℕ, _+_, _≤_, _<_}
+-- What the search for a day without a holder needs: rows in order, and a point of the book.
+use Prim.Native.Nat.{ℕ, _≤_, _<_}
 use mathlib.Core.List.{List}
-use Rattle.calendar.specs.Gregorian.{firstDay, daysOfMonth}
 use Rattle.rules.specs.Whole.{Dated}
 use Rattle.rules.specs.declared.Book.{Book}
-use Rattle.rules.specs.Sizes.{endOfDays, holderSize, mostElements, mostPoints, stateSize}
+use Rattle.rules.specs.Sizes.{holderSize, mostElements, mostPoints, stateSize}
 use Rattle.tables.specs.Order.{LinkRows, ValueRows}
 
 -- a book whose rows are in order, and one of its points
@@ -16,9 +15,3 @@ pub record PointAsked (b : Book) (linkWords holderWords stateWords : List ℕ) (
   pub links : LinkRows linkWords (b .periods)
   pub holders : ValueRows holderSize holderWords (b .holders)
   pub states : ValueRows stateSize stateWords (b .states)
-
--- a day of the book's month
-pub record InMonth (b : Book) (d : ℕ) : Type 0 where
-  pub from : firstDay (b .year) (b .month) ≤ d
-  pub upto : d < firstDay (b .year) (b .month) + daysOfMonth (b .year) (b .month)
-  pub within : d < endOfDays

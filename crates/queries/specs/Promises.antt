@@ -1,4 +1,5 @@
--- What the queries promise, each as one record of equations with the rules' definitions.
+-- What the queries for lines and periods promise, each as one record of equations with the rules' definitions. The query for a day promises
+-- one equation, with `dayQuery`.
 use Prim.Native.Nat.{ℕ}
 use mathlib.Core.Path.{_≡_}
 use mathlib.Core.Bool.{Bool, true, false}
@@ -6,11 +7,10 @@ use mathlib.Core.List.{List}
 use lib.Dec.{eqb}
 use lib.ListN.{length, take, drop}
 use Rattle.rules.specs.declared.LineAnswer.{LineAnswer}
-use Rattle.rules.specs.declared.DayAnswer.{DayAnswer}
 use Rattle.rules.specs.World.{World, rowsOf, InBook}
 use Rattle.rules.specs.Opening.{openingAnswer}
-use Rattle.rules.specs.Queries.{lineNumber, lineQuery, lineGiven, ownLine, periodsQuery, dayNumber}
-use Rattle.rules.specs.Answers.{lineResult, dayAnswerNumber, DayAnswered}
+use Rattle.rules.specs.Queries.{lineNumber, lineQuery, lineGiven, ownLine, periodsQuery}
+use Rattle.rules.specs.Answers.{lineResult}
 use Rattle.rules.specs.Fresh.{freshFacts}
 use Rattle.rules.specs.Claim.{Event, reached}
 use Rattle.tables.specs.RowRange.{pairPlace}
@@ -37,8 +37,3 @@ pub record PeriodsAt (w : World) (point element : ℕ) (place count : ℕ) : Typ
   pub from : place ≡ pairPlace point element (rowsOf (w .position .tables .links))
   pub many : count ≡ length (periodsQuery w point element)
   pub rows : take count (drop place (w .position .tables .links .words)) ≡ periodsQuery w point element
-
--- the query for a day without a holder: its number, and what it names
-pub record DayTold (w : World) (point : ℕ) (r : DayAnswer) : Type 0 where
-  pub number : dayAnswerNumber r ≡ dayNumber w point
-  pub holds : DayAnswered w point r

@@ -1,5 +1,5 @@
-// The queries of a book that is well formed: the line of a supplier and an element, the periods of a point and an element, and a day
-// without a holder. Each asks its own questions, 6 to 8, but for the periods, which are handed the answer to theirs.
+// The queries of a book that is well formed: the line of a supplier and an element, the periods of a point and an element, and the
+// earliest day without a holder. Each asks its own questions, 6 to 8, but for the periods, which are handed the answer to theirs.
 ghost use mathlib.Core.Path.{_≡_};
 ghost use mathlib.Core.Logic.{_≢_};
 ghost use mathlib.Core.List.{[]};
@@ -9,13 +9,14 @@ ghost use Rattle.rules.specs.Basics.{within, anyTo};
 ghost use Rattle.rules.specs.Sizes.{endOfDays, lineSize, mostElements, mostPoints, mostSuppliers};
 ghost use Rattle.rules.specs.World.{linkedOn};
 ghost use Rattle.rules.specs.Effects.{ask};
-ghost use Rattle.rules.specs.Queries.{periodsNumber, periodsQuery, lacksHolder};
-ghost use Rattle.rules.specs.Answers.{numberOf};
+ghost use Rattle.rules.specs.Queries.{periodsNumber, periodsQuery};
+ghost use Rattle.rules.specs.Queries.{DayResult, lacksHolder, earliestLacking, dayQuery};
+ghost use Rattle.rules.specs.Answers.{numberOf, dayResult};
 ghost use Rattle.rules.specs.Whole.{Whole};
 ghost use Rattle.rules.specs.Lent.{Lists, worldIn, openingIn, tablesIn, lendLinks, lendRows, lendLines, was};
 ghost use Rattle.tables.specs.Order.{LinkRows};
-ghost use Rattle.queries.specs.Promises.{LineAnswered, PeriodsAt, DayTold};
-ghost use Rattle.queries.specs.Days.{PointAsked, InMonth};
+ghost use Rattle.queries.specs.Promises.{LineAnswered, PeriodsAt};
+ghost use Rattle.queries.specs.Days.{PointAsked};
 use facts::holder_on;
 use facts::is_counting;
 use facts::month_days;
@@ -107,7 +108,7 @@ pub fn periods(asked: Answer, book: Book, links: &[u64], point: u64, element: u6
     }
 }
 
-// ---- a day without a holder
+// ---- the earliest day without a holder
 
 // Is some element linked to the point that day. At most 64 searches, each logarithmic in the rows.
 fn has_link(book: Book, links: &[u64], point: u64, day: u64) -> bool
@@ -128,7 +129,8 @@ fn has_link(book: Book, links: &[u64], point: u64, day: u64) -> bool
     false
 }
 
-// Does the point, on a day of the month, count but for a missing holder and have a link. At most 66 searches.
+// Does the point count on the day but for a missing holder, and have a link. A search for the holder; where there is none, one for the
+// state; where that counts, one for each element up to the first that is linked.
 fn lacks_holder(
     book: Book,
     links: &[u64],
@@ -138,7 +140,7 @@ fn lacks_holder(
     day: u64,
 ) -> bool
     requires { ⌜ PointAsked book (now links) (now holders) (now states) point ⌝ }
-    requires { ⌜ InMonth book day ⌝ }
+    requires { ⌜ day < endOfDays ⌝ }
     ensures { λ r. ⌜ ((o : Lists) →
         let t = lendRows (was links) (was holders) (was states) o in
         r ≡ lacksHolder (openingIn book t) (tablesIn book t) point day) ⌝ }
@@ -151,25 +153,29 @@ fn lacks_holder(
     false
 }
 
-// The first such day of the month. At most 31 days of 66 searches.
+// The earliest such day of the month. Linear in the days up to it, each at the cost above.
 fn find_day(book: Book, links: &[u64], holders: &[u64], states: &[u64], point: u64) -> DayAnswer
     requires { ⌜ PointAsked book (now links) (now holders) (now states) point ⌝ }
     ensures { λ r. ⌜ ((o : Lists) →
-        let w = worldIn book (lendRows (was links) (was holders) (was states) o) in
-        Whole w → DayTold w point r) ⌝ }
+        let t = lendRows (was links) (was holders) (was states) o in
+        dayResult r ≡ DayResult.found (earliestLacking (openingIn book t) (tablesIn book t) point)) ⌝ }
 {
-    let end = month_first(book) + month_days(book);
-    let mut day = month_first(book);
-    while day < end {
+    let first = month_first(book);
+    let days = month_days(book);
+    let mut date = 1;
+    while date <= days {
+        let day = first + (date - 1);
         if lacks_holder(book, links, holders, states, point, day) {
             return DayAnswer::Day(day);
         }
-        day += 1;
+        date += 1;
     }
     DayAnswer::NoDay
 }
 
-// A day of the month on which the point counts but for a missing holder and has a link. At most 31 days of 66 searches.
+// The earliest day of the month on which the point counts but for a missing holder and has a link. Linear in the days up to it, or in all
+// days of the month where there is none; each takes a search for the holder, where there is none one for the state, and where that counts
+// one for each element up to the first that is linked. A search is logarithmic in the rows.
 pub fn day_without_holder(
     book: Book,
     links: &[u64],
@@ -180,7 +186,7 @@ pub fn day_without_holder(
     requires { ⌜ ((o : Lists) × Whole (worldIn book (lendRows (now links) (now holders) (now states) o))) ⌝ }
     ensures { λ r. ⌜ ((o : Lists) →
         let w = worldIn book (lendRows (was links) (was holders) (was states) o) in
-        Whole w → DayTold w point r) ⌝ }
+        Whole w → dayResult r ≡ dayQuery w point) ⌝ }
 {
     let asked = ask_point(book, point);
     if number(asked) == 0 {

@@ -20,6 +20,7 @@ pub mod Agree
 pub mod Kept
 pub mod FreshLaws
 pub mod LineQuery
+pub mod DayQuery
 pub mod Small
 pub mod Begin
 pub mod Demand3

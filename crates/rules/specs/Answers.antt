@@ -1,6 +1,6 @@
 -- "Each enum answer has a definition that gives this paper's number and values for each of its cases."
 use Prim.Native.Nat.{ℕ}
-use mathlib.Core.Logic.{_≢_}
+use mathlib.Core.Option.{none, some}
 use Rattle.rules.specs.declared.Answer.{Answer}
 use Rattle.rules.specs.declared.Answer.the-variants.{Accepted, BrokenField, OutOfLimits, WrongLength, WrongElement, IllFormed}
 use Rattle.rules.specs.declared.Answer.the-variants.{OutOfRange, UnknownPoint, UnknownElement, NotPermitted, OutOfTime}
@@ -8,8 +8,7 @@ use Rattle.rules.specs.declared.Answer.the-variants.{NotExisting, Closed
 use Rattle.rules.specs.declared.Answer.the-variants.{OutsideMonth, TableFull, ListFull}
 use Rattle.rules.specs.declared.LineAnswer.{LineAnswer}
 use Rattle.rules.specs.declared.DayAnswer.{DayAnswer}
-use Rattle.rules.specs.World.{World}
-use Rattle.rules.specs.Queries.{LineResult, lineRefused, DayNamed, NoDayNamed}
+use Rattle.rules.specs.Queries.{LineResult, lineRefused, DayResult}
 
 -- 0 for accepted, else the question's number
 abbrev pub numberOf : Answer → ℕ
@@ -39,14 +38,8 @@ lineResult (LineAnswer.Line quantity kroner billionths) =
     record { number = 0; quantity = quantity; kroner = kroner; billionths = billionths }
 lineResult (LineAnswer.Refused a) = lineRefused (numberOf a)
 
--- the number of an answer to the query for a day without a holder
-abbrev pub dayAnswerNumber : DayAnswer → ℕ
-dayAnswerNumber (DayAnswer.Day d) = 0
-dayAnswerNumber DayAnswer.NoDay = 0
-dayAnswerNumber (DayAnswer.Refused a) = numberOf a
-
--- what holds of its values; a refusal is by a question, so its number is not 0
-abbrev pub DayAnswered : World → (point : ℕ) → DayAnswer → Type 0
-DayAnswered w p (DayAnswer.Day d) = DayNamed w p d
-DayAnswered w p DayAnswer.NoDay = NoDayNamed w p
-DayAnswered w p (DayAnswer.Refused a) = numberOf a ≢ 0
+-- the number and the day of an answer to the query for the earliest day without a holder
+abbrev pub dayResult : DayAnswer → DayResult
+dayResult (DayAnswer.Day d) = DayResult.found (some d)
+dayResult DayAnswer.NoDay = DayResult.found none
+dayResult (DayAnswer.Refused a) = DayResult.refused (numberOf a)

@@ -1,4 +1,5 @@
--- Tests over ranges and lists, and the latest of dated values: the words that the definitions of document 01 are written in.
+-- Tests over ranges and lists, the first number that passes one, and the latest of dated values: the words that the definitions of
+-- document 01 are written in.
 use Prim.Native.Nat.{ℕ, zero, suc}
 use mathlib.Core.Bool.{Bool, true, false, _&&_, _||_, cond}
 use mathlib.Core.List.{List, [], _∷_, _++_}
@@ -53,6 +54,11 @@ asked test (some a) = test a
 unfoldable pub orElse : Option ℕ → (other : ℕ) → ℕ
 orElse none other = other
 orElse (some v) other = v
+
+-- the first of n numbers from a on of which f holds
+unfoldable pub firstFrom : (ℕ → Bool) → (from count : ℕ) → Option ℕ
+firstFrom f a zero = none
+firstFrom f a (suc n) = cond (f a) (some a) (firstFrom f (suc a) n)
 
 -- what was recorded on the latest day up to d, or 0 where nothing was
 unfoldable pub latest : ((day : ℕ) → Option ℕ) → (day : ℕ) → ℕ

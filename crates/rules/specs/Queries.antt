@@ -1,17 +1,16 @@
 -- The queries: "a query 2 to 5, then 6 for a supplier number (0 is refused), 7, 8". None changes anything.
 use Prim.Native.Nat.{ℕ, _+_}
-use mathlib.Core.Path.{_≡_}
-use mathlib.Core.Bool.{Bool, false, _&&_, cond}
+use mathlib.Core.Bool.{Bool, _&&_, cond}
 use mathlib.Core.List.{List, []}
+use mathlib.Core.Option.{Option}
 use lib.IntN.{ℤ, pos, natAbs}
 use lib.ListN.{getD}
-use lib.Dec.{T, eqb, ltb}
-use Rattle.rules.specs.Basics.{within, anyTo}
+use lib.Dec.{eqb, ltb}
+use Rattle.rules.specs.Basics.{within, anyTo, firstFrom}
 use Rattle.rules.specs.Rows.{pairRows}
 use Rattle.rules.specs.Lines.{Facts, Measure, line}
 use Rattle.rules.specs.World.{Opening, Tables, World, rowsOf, termsOf, factsOf, holderOn, stateOn, countingState, linkedOn}
-use Rattle.rules.specs.World.{lineAt, amountOf, kronerOf, billionthsOf}
-use Rattle.rules.specs.Questions.{question16}
+use Rattle.rules.specs.World.{lineAt, amountOf, kronerOf, billionthsOf, monthFirst, monthDays}
 use Rattle.rules.specs.Effects.{ask, askBook}
 
 -- ---- the line query
@@ -70,21 +69,32 @@ periodsNumber w p e = askBook w (ask (ltb p (w .opening .points)) 7 (ask (ltb e 
 unfoldable pub periodsQuery : World → (point element : ℕ) → List ℕ
 periodsQuery w p e = cond (eqb (periodsNumber w p e) 0) (pairRows p e (rowsOf (w .position .tables .links))) []
 
--- ---- a day without a holder
+-- ---- the earliest day without a holder
+
+-- its answer: the day, or none where there is none; or the number of a question
+pub data DayResult : Type 0 where
+  found : (day : Option ℕ) → DayResult
+  refused : (number : ℕ) → DayResult
 
 unfoldable pub dayNumber : World → (point : ℕ) → ℕ
 dayNumber w p = askBook w (ask (ltb p (w .opening .points)) 7 0)
 
--- "a day of the month on which a given point counts but for a missing holder and has a link"
+-- a day "on which a given point counts but for a missing holder and has a link"
 unfoldable pub lacksHolder : Opening → Tables → (point day : ℕ) → Bool
 lacksHolder o t p d =
-    question16 o d && (eqb (holderOn t p d) 0 && (countingState (stateOn t p d) && anyTo (λ e. linkedOn t p e d) (o .elements)))
+    eqb (holderOn t p d) 0 && (countingState (stateOn t p d) && anyTo (λ e. linkedOn t p e d) (o .elements))
 
--- a day that the query may name, and where it may answer "none"; "Which such day is left to the program"
-pub record DayNamed (w : World) (p d : ℕ) : Type 0 where
-  pub number : dayNumber w p ≡ 0
-  pub lacks : T (lacksHolder (w .opening) (w .position .tables) p d)
+-- "The query that names some such day shall name the earliest in the month."
+unfoldable pub earliestLacking : Opening → Tables → (point : ℕ) → Option ℕ
+earliestLacking o t p = firstFrom (lacksHolder o t p) (monthFirst o) (monthDays o)
 
-pub record NoDayNamed (w : World) (p : ℕ) : Type 0 where
-  pub number : dayNumber w p ≡ 0
-  pub none : (d : ℕ) → lacksHolder (w .opening) (w .position .tables) p d ≡ false
+unfoldable pub dayQuery : World → (point : ℕ) → DayResult
+dayQuery w p =
+    cond (eqb (dayNumber w p) 0)
+    (DayResult.found (earliestLacking (w .opening) (w .position .tables) p))
+    (DayResult.refused (dayNumber w p))
+
+-- the number of an answer: 0 where no question says no
+abbrev pub dayResultNumber : DayResult → ℕ
+dayResultNumber (DayResult.found day) = 0
+dayResultNumber (DayResult.refused number) = number

@@ -249,7 +249,7 @@ pub enum LineAnswer {
     Refused(Answer),
 }
 
-// What the query for a day without a holder answers.
+// What the query for the earliest day without a holder answers.
 pub enum DayAnswer {
     Day(u64),
     NoDay,

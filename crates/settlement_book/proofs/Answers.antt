@@ -5,42 +5,41 @@ use mathlib.Core.Path.{_≡_, refl, sym, ap, subst, _∙_}
 use mathlib.Core.Logic.{_≢_}
 use mathlib.Core.Bool.{Bool, true, false, cond}
 use mathlib.Core.List.{List}
-use lib.Dec.{T, eqb, leb, ltb, ltb→lt}
+use mathlib.Core.Option.{none, some}
+use lib.Dec.{eqb, ltb}
 use lib.IntN.{ℤ}
-use borrow.Author.Tests.{eq-eqb, ne-eqb, eqb-true}
-use Rattle.calendar.proofs.Entries.{both-left, both-right}
+use borrow.Author.Tests.{eq-eqb, ne-eqb, eqb-true, lt-ltb}
 use Rattle.calendar.specs.Gregorian.{InRange}
-use Rattle.calendar.proofs.MonthLaws.{month-within}
+use Rattle.rules.specs.Basics.{when}
 use Rattle.rules.specs.declared.Answer.{Answer}
 use Rattle.rules.specs.declared.Book.{Book}
 use Rattle.rules.specs.declared.Fields.{Fields}
 use Rattle.rules.specs.declared.LineAnswer.{LineAnswer}
-use Rattle.rules.specs.declared.DayAnswer.{DayAnswer}
 use Rattle.rules.specs.Lines.{Measure}
-use Rattle.rules.specs.World.{World, bookOf, Opening, Tables, monthFirst, monthDays, stored}
+use Rattle.rules.specs.World.{World, bookOf, stored}
 use Rattle.rules.specs.WellFormed.{withinLimits, question2}
-use Rattle.rules.specs.Questions.{question16}
 use Rattle.rules.specs.Opening.{openingAnswer, opened, afterOpening}
 use Rattle.rules.specs.Effects.{askBook, answer, accepted, stepBy, step}
 use Rattle.rules.specs.Lent.{Lists, worldIn}
 use Rattle.rules.specs.Queries.{LineResult, lineNumber, lineQuery, lineNamed, lineRefused, periodsNumber, dayNumber}
-use Rattle.rules.specs.Queries.{lacksHolder}
-use Rattle.rules.specs.Answers.{numberOf, lineResult, dayAnswerNumber}
+use Rattle.rules.specs.Queries.{DayResult, dayQuery, dayResultNumber}
+use Rattle.rules.specs.Answers.{numberOf, lineResult}
 use Rattle.rules.proofs.Tests.{cases, both}
 use Rattle.rules.specs.Whole.{Whole}
 use Rattle.rules.proofs.Stored.{billionths-lt}
 use Rattle.rules.proofs.LineQuery.{query-stored}
+use Rattle.rules.proofs.DayQuery.{day-number, day-found, day-below}
 use Rattle.rules.proofs.Begin.{passed, begin-whole}
-use Rattle.rules.proofs.Parts.{lengths, limits}
+use Rattle.rules.proofs.Parts.{limits}
 use Rattle.rules.proofs.BookLaws.{book-refused}
 use Rattle.recording.specs.Opened.{freshBook, cleared}
 use Rattle.recording.proofs.ClearLaws.{opened-cleared}
-use Rattle.queries.specs.Promises.{LineAnswered, DayTold}
-use Rattle.queries.proofs.Asks.{line-passed, day-passed}
+use Rattle.queries.specs.Promises.{LineAnswered}
+use Rattle.queries.proofs.Asks.{line-passed}
 use Rattle.queries.proofs.Answered.{line-refused}
 use Rattle.settlement.specs.declared.Reply.{Reply}
 use Rattle.settlement.specs.Replies.{roomIn, Replied}
-use Rattle.settlement_book.specs.Numbers.{bookIn, numbersIn, lineNumbers, lineAfter, InKrone, dayAfter}
+use Rattle.settlement_book.specs.Numbers.{bookIn, numbersIn, lineNumbers, lineAfter, InKrone, noDay, dayAfter}
 use Rattle.settlement_book.specs.Promises.{OpensIn, RepliesIn, LineIn, PeriodsIn, DayIn}
 
 -- a test that is false of a number that is 0
@@ -123,51 +122,37 @@ unfolding periodsNumber
 periods-no-book w p e r h z p₀ n₀ =
     record { number = h ∙ sym (book-refused w (λ x. z (h ∙ x)) _); refused = λ _. (refl, refl); answered = λ k. absurd (z k) }
 
--- ---- a day without a holder
+-- ---- the earliest day without a holder
 
--- a day that the query names is one of the month
-day-in-month : (o : Opening) (t : Tables) (p d : ℕ) → T (lacksHolder o t p d) → d < monthFirst o + monthDays o
-unfolding lacksHolder question16
-day-in-month o t p d h = ltb→lt _ _ (both-right (leb (monthFirst o) d) (ltb d (monthFirst o + monthDays o))
-    (both-left (question16 o d) _ h))
+pub day-in-numbers : (w : World) (p : ℕ) (a : DayResult) → a ≡ dayQuery w p → (r lent out : ℕ)
+    → r ≡ dayResultNumber a → out ≡ dayAfter a lent
+    → DayIn w p r lent out
+day-in-numbers w p a h r lent out i j =
+    record { number = i ∙ ap dayResultNumber h ∙ day-number w p; day = j ∙ ap (λ (x : DayResult). dayAfter x lent) h }
 
-pub day-in-numbers : (w : World) (p : ℕ) (r : DayAnswer) → DayTold w p r → (n : ℕ) → n ≡ dayAnswerNumber r → (lent out : ℕ)
-    → out ≡ dayAfter r lent
-    → DayIn w p n lent out
-unfolding monthFirst monthDays
-day-in-numbers w p (DayAnswer.Day d) h n i lent out j =
-    let z : dayNumber w p ≡ 0 = sym (h .number) in
-    record {
-      number = i ∙ sym z;
-      refused = λ k. absurd (k i);
-      named = λ k l. rw j (h .holds);
-      none = λ k l. let f = day-passed w p z .0 in
-          let m = lengths w f .limited .month in
-          let a = month-within (w .opening .year) (w .opening .month) m in
-          let b = day-in-month (w .opening) (w .position .tables) p d (h .holds .lacks) in
-          absurd (omega arith);
-    }
-day-in-numbers w p DayAnswer.NoDay h n i lent out j =
-    record {
-      number = i ∙ h .number;
-      refused = λ k. absurd (k i);
-      named = λ k l. absurd (omega arith);
-      none = λ k l. (j, h .holds);
-    }
-day-in-numbers w p (DayAnswer.Refused a) h n i lent out j =
-    record {
-      number = i ∙ h .number;
-      refused = λ k. j;
-      named = λ k. absurd (h .holds (sym i ∙ k));
-      none = λ k. absurd (h .holds (sym i ∙ k));
-    }
+-- of a book that is not well formed
+pub day-no-book : (w : World) (p r : ℕ) → r ≡ askBook w 0 → r ≢ 0 → (lent : ℕ) → DayIn w p r lent lent
+unfolding dayNumber dayQuery
+day-no-book w p r h z lent =
+    let k : r ≡ dayNumber w p = h ∙ sym (book-refused w (λ x. z (h ∙ x)) _) in
+    record { number = k; day = rw (ne-eqb (dayNumber w p) 0 (λ x. z (k ∙ x))) }
 
-pub day-no-book : (w : World) (p : ℕ) (a : Answer) → numberOf a ≡ askBook w 0 → numberOf a ≢ 0 → (n : ℕ) → n ≡ numberOf a → (lent : ℕ)
-    → DayIn w p n lent lent
-unfolding dayNumber
-day-no-book w p a h z n i lent =
-    let k : numberOf a ≡ dayNumber w p = h ∙ sym (book-refused w (λ x. z (h ∙ x)) _) in
-    day-in-numbers w p (DayAnswer.Refused a) (record { number = k; holds = z }) n i lent lent refl
+-- where no question says no, a number below 36,525 is the day that is named, and any other says that there is none
+module _ (w : World) (p lent out : ℕ) (h : DayIn w p 0 lent out) where
+  read-back : (x : DayResult) → dayQuery w p ≡ x → dayQuery w p ≡ DayResult.found (when (ltb out noDay) out)
+  unfolding when
+  read-back (DayResult.found (some d)) e =
+      let o : out ≡ d = h .day ∙ ap (λ (x : DayResult). dayAfter x lent) e in
+      rw (o, lt-ltb d noDay (day-below w p d e)) e
+  read-back (DayResult.found none) e =
+      let o : out ≡ noDay = h .day ∙ ap (λ (x : DayResult). dayAfter x lent) e in
+      rw o e
+  read-back (DayResult.refused n) e =
+      let z = sym (day-found w p (sym (h .number))) ∙ e in
+      absurd (let x : _≡_ {A = ℕ} 0 1 = cc in omega arith)
+
+  pub day-read-back : dayQuery w p ≡ DayResult.found (when (ltb out noDay) out)
+  day-read-back = read-back (dayQuery w p) refl
 
 -- ---- an opening
 

@@ -2,13 +2,13 @@
 use Prim.Native.Nat.{ℕ, _<_}
 use mathlib.Core.Path.{_≡_}
 use mathlib.Core.List.{List, [], _∷_}
+use mathlib.Core.Option.{none, some}
 use lib.IntN.{ℤ, pos}
 use lib.ListN.{length, getD}
 use Rattle.rules.specs.declared.Book.{Book}
 use Rattle.rules.specs.declared.Fields.{Fields}
 use Rattle.rules.specs.declared.LineAnswer.{LineAnswer}
-use Rattle.rules.specs.declared.DayAnswer.{DayAnswer}
-use Rattle.rules.specs.Queries.{LineResult}
+use Rattle.rules.specs.Queries.{LineResult, DayResult}
 use Rattle.rules.specs.Sizes.{billion, endOfDays, lineSize}
 use Rattle.recording.specs.Opened.{namedBook, freshBook}
 
@@ -92,7 +92,7 @@ abbrev pub noDay : ℕ
 noDay = endOfDays
 
 -- a lent day afterwards: a refusal leaves it
-abbrev pub dayAfter : DayAnswer → (lent : ℕ) → ℕ
-dayAfter (DayAnswer.Day d) lent = d
-dayAfter DayAnswer.NoDay lent = noDay
-dayAfter (DayAnswer.Refused a) lent = lent
+abbrev pub dayAfter : DayResult → (lent : ℕ) → ℕ
+dayAfter (DayResult.found (some d)) lent = d
+dayAfter (DayResult.found none) lent = noDay
+dayAfter (DayResult.refused number) lent = lent

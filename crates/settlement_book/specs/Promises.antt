@@ -1,5 +1,5 @@
 -- What each exported function promises of the numbers that it gives: equations with the rules' definitions.
-use Prim.Native.Nat.{ℕ, _≤_, _<_}
+use Prim.Native.Nat.{ℕ}
 use mathlib.Core.Path.{_≡_}
 use mathlib.Core.Logic.{_≢_}
 use mathlib.Core.Bool.{cond}
@@ -11,13 +11,13 @@ use Rattle.rules.specs.declared.Fields.{Fields}
 use Rattle.rules.specs.World.{World, bookOf, InBook}
 use Rattle.rules.specs.Opening.{openingAnswer, afterOpening}
 use Rattle.rules.specs.Effects.{answer, step, recordsOf}
-use Rattle.rules.specs.Queries.{lineNumber, lineQuery, lineGiven, ownLine, periodsNumber, dayNumber, DayNamed, NoDayNamed}
+use Rattle.rules.specs.Queries.{lineNumber, lineQuery, lineGiven, ownLine, periodsNumber, dayNumber, dayQuery}
 use Rattle.rules.specs.Fresh.{freshFacts}
 use Rattle.rules.specs.Claim.{Event, reached}
 use Rattle.ledger.specs.RecordNumbers.{numbersAfter}
 use Rattle.queries.specs.Promises.{PeriodsAt}
 use Rattle.settlement.specs.Replies.{roomIn}
-use Rattle.settlement_book.specs.Numbers.{numbersIn, lineNumbers, noDay}
+use Rattle.settlement_book.specs.Numbers.{numbersIn, lineNumbers, dayAfter}
 
 -- an opening of the world w that leaves the world after, and of the book's numbers
 pub record OpensIn (w after : World) (lent out : List ℕ) (r : ℕ) : Type 0 where
@@ -48,9 +48,7 @@ pub record PeriodsIn (w : World) (point element : ℕ) (r p₀ p n₀ n : ℕ) :
   pub refused : r ≢ 0 → (p ≡ p₀) × (n ≡ n₀)
   pub answered : r ≡ 0 → PeriodsAt w point element p n
 
--- the query for a day without a holder
+-- the query for the earliest day without a holder: its number, and the day
 pub record DayIn (w : World) (point : ℕ) (r lent out : ℕ) : Type 0 where
   pub number : r ≡ dayNumber w point
-  pub refused : r ≢ 0 → out ≡ lent
-  pub named : r ≡ 0 → out < noDay → DayNamed w point out
-  pub none : r ≡ 0 → noDay ≤ out → (out ≡ noDay) × NoDayNamed w point
+  pub day : out ≡ dayAfter (dayQuery w point) lent

@@ -389,10 +389,10 @@ pub extern "C" fn settlement_book_periods(
     }
 }
 
-// ---- a day without a holder
+// ---- the earliest day without a holder
 
-// A day of the month on which the point counts but for a missing holder and has a link, of a book that is well formed. For the Rust wrapper
-// alone. At most 31 days of 66 searches.
+// The earliest day of the month on which the point counts but for a missing holder and has a link, or 36,525 where there is none, of a book
+// that is well formed. For the Rust wrapper alone. Cost: as for `queries::day_without_holder`.
 #[no_mangle]
 pub extern "C" fn settlement_book_day_without_holder_within(
     book: &[u64],

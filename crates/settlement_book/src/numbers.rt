@@ -3,7 +3,8 @@ ghost use mathlib.Core.Path.{_≡_};
 ghost use mathlib.Core.Bool.{cond};
 ghost use lib.Dec.{eqb};
 ghost use lib.ListN.{length};
-ghost use Rattle.rules.specs.Answers.{lineResult, dayAnswerNumber, numberOf};
+ghost use Rattle.rules.specs.Queries.{dayResultNumber};
+ghost use Rattle.rules.specs.Answers.{lineResult, dayResult, numberOf};
 ghost use Rattle.rules.specs.Sizes.{lineSize};
 ghost use Rattle.rules.specs.Lent.{left, was};
 ghost use Rattle.settlement_book.specs.Numbers.{bookSize, fieldsSize, bookIn, numbersIn, fieldsIn};
@@ -118,7 +119,7 @@ pub fn put_line(answer: LineAnswer, line: &mut [i64]) -> u64
 
 // The day, 36,525 for none, or the question that says no; a refusal writes nothing.
 pub fn put_day(answer: DayAnswer, day: &mut u64) -> u64
-    ensures { λ r. ⌜ (r ≡ dayAnswerNumber answer) × (left day ≡ dayAfter answer (was day)) ⌝ }
+    ensures { λ r. ⌜ (r ≡ dayResultNumber (dayResult answer)) × (left day ≡ dayAfter (dayResult answer) (was day)) ⌝ }
 {
     match answer {
         DayAnswer::Day(found) => {

@@ -419,13 +419,16 @@ static void periods(void) {
 }
 
 static void days_without_holder(void) {
-    static const uint64_t nobody[] = {4, 2, 0, FIRST_DAY, 0, 0, 8850, 0, 0};
+    static const uint64_t late[] = {4, 2, 0, FIRST_DAY, 0, 0, 8850, 0, 0};  /* nobody */
+    static const uint64_t early[] = {4, 2, 0, FIRST_DAY, 0, 0, 8845, 0, 0}; /* nobody */
+    static const uint64_t again[] = {4, 2, 0, FIRST_DAY, 0, 0, 8845, 0, 2}; /* holder 2 */
     day_is(SETTLEMENT_BOOK_NO_DAY);
-    accepted("no holder from day 8850", nobody);
-    asked_point = 0;
-    call(QUERY_DAY, "day without a holder", SETTLEMENT_BOOK_ACCEPTED, ONLY(DAY));
-    const uint64_t day = *numbers(DAY);
-    expect("day without a holder", "a day from 8850 on in the month", day >= 8850 && day < FIRST_DAY + DAYS);
+    accepted("no holder from day 8850", late);
+    day_is(8850);
+    accepted("no holder from day 8845", early);
+    day_is(8845);
+    accepted("a holder from day 8845 to day 8849", again);
+    day_is(8850);
     asked_point = POINTS;
     call(QUERY_DAY, "day without a holder that is refused", 7, NOTHING);
 }

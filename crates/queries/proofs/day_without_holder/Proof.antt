@@ -1,8 +1,10 @@
 -- Where question 7 does not say no, the search answers.
 use mathlib.Core.Path.{_≡_, sym, _∙_}
-use Rattle.rules.specs.Queries.{dayNumber}
+use borrow.Author.Tests.{ne-eqb}
+use Rattle.rules.specs.Queries.{dayNumber, dayQuery}
 use Rattle.rules.specs.Answers.{numberOf}
 use Rattle.rules.specs.Whole.{Whole}
+use Rattle.rules.proofs.DayQuery.{day-found}
 use Rattle.rules.specs.Lent.{Lists, worldIn, lendRows}
 use Rattle.queries.proofs.Asks.{day-asks}
 use Rattle.queries.proofs.Lacks.{point-asked}
@@ -37,13 +39,18 @@ find-day-requires c κs =
     (sym (number-is asked o (start .pre .1)) ∙ sym (c .before .number .ensures) ∙ c .if1 .taken)
 
 returns : tie.Need-returns
-returns c = search needs
+returns c o whole =
+    let asked : tie.After-ask-point = search in
+    let passed : tie.Then1 = search in
+    let numbered : tie.After-number = search in
+    c .find-day .ensures o ∙ sym (day-found _ _ (sym (number-is asked o whole) ∙ sym (numbered .number .ensures) ∙ passed .if1 .taken))
 
 returns-2 : tie.Need-returns-2
+unfolding dayQuery
 returns-2 c o whole =
     let asked : tie.After-ask-point = search in
     let e = number-is asked o whole in
-    record { number = e; holds = λ h. c .if1 .left (c .before .number .ensures ∙ h) }
+    rw (← e, ne-eqb _ _ (λ z. c .if1 .left (c .before .number .ensures ∙ z)))
 
 pub day-without-holder-spec : {M : Type 1} → statement M
 day-without-holder-spec =

@@ -1,6 +1,5 @@
 -- By cases on the holder and the state; then the links decide.
 use mathlib.Core.Path.{sym, _∙_}
-use Rattle.rules.specs.World.{monthFirst, monthDays}
 use Rattle.rules.specs.Lent.{Lists, openingIn, tablesIn, lendRows}
 use Rattle.queries.proofs.Lacks.{by-links, by-state, by-holder}
 use borrow.Author.Needs.{needs}
@@ -24,7 +23,6 @@ has-link-requires : tie.Need-has-link-requires
 has-link-requires c κs = search needs
 
 returns : tie.Need-returns
-unfolding monthFirst monthDays
 returns c o =
     let start : tie.Start = search in
     let holder : tie.After-holder-on = search in
@@ -34,12 +32,11 @@ returns c o =
     let a = start .args in
     let t = lent start o in
     c .has-link .ensures t
-    ∙ by-links (openingIn (a .book) t) (tablesIn (a .book) t) (a .point) (a .day) (start .pre .1 .from) (start .pre .1 .upto)
+    ∙ by-links (openingIn (a .book) t) (tablesIn (a .book) t) (a .point) (a .day)
     (sym (holder .holder-on .ensures t) ∙ vacant .if1 .taken)
     (rw (state .state-on .ensures t) at (sym (counting .is-counting .ensures) ∙ c .before .if2 .taken))
 
 returns-2 : tie.Need-returns-2
-unfolding monthFirst monthDays
 returns-2 c o =
     let start : tie.Start = search in
     let holder : tie.After-holder-on = search in
@@ -47,17 +44,16 @@ returns-2 c o =
     let state : tie.After-state-on = search in
     let a = start .args in
     let t = lent start o in
-    by-state (openingIn (a .book) t) (tablesIn (a .book) t) (a .point) (a .day) (start .pre .1 .from) (start .pre .1 .upto)
+    by-state (openingIn (a .book) t) (tablesIn (a .book) t) (a .point) (a .day)
     (sym (holder .holder-on .ensures t) ∙ vacant .if1 .taken)
     (rw (state .state-on .ensures t) at (sym (c .before .is-counting .ensures) ∙ c .if2 .left))
 
 returns-3 : tie.Need-returns-3
-unfolding monthFirst monthDays
 returns-3 c o =
     let start : tie.Start = search in
     let a = start .args in
     let t = lent start o in
-    by-holder (openingIn (a .book) t) (tablesIn (a .book) t) (a .point) (a .day) (start .pre .1 .from) (start .pre .1 .upto)
+    by-holder (openingIn (a .book) t) (tablesIn (a .book) t) (a .point) (a .day)
     (λ z. c .if1 .left (c .before .holder-on .ensures t ∙ z))
 
 pub lacks-holder-spec : {M : Type 1} → statement M

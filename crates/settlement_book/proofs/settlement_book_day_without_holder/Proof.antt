@@ -70,9 +70,9 @@ returns-3 c =
     let no : tie.Else2 = search in
     let sized : tie.Else1 = search in
     let start = start-of checked in (
-      λ _. day-no-book _ (start .args .point) (checked .check-book .result)
-          (asked-as _ (checked .check-book .ensures) (named-of checked .book-of .ensures))
-          (λ z. no .if2 .left (numbered .number2 .ensures ∙ z)) _ (c .number3 .ensures) (start .args .day .now),
+      λ _. day-no-book _ (start .args .point) _
+          (c .number3 .ensures ∙ asked-as _ (checked .check-book .ensures) (named-of checked .book-of .ensures))
+          (λ z. no .if2 .left (numbered .number2 .ensures ∙ sym (c .number3 .ensures) ∙ z)) (start .args .day .now),
       λ short. absurd (short (sized .if1 .left)),
     )
 

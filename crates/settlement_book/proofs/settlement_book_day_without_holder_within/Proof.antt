@@ -1,9 +1,9 @@
 -- The answer of the query, said in numbers.
-use mathlib.Core.Path.{sym, subst}
+use mathlib.Core.Path.{sym, ap, subst, _∙_}
 use Rattle.rules.specs.declared.Book.{Book}
 use Rattle.rules.specs.Lent.{Lists, worldIn, lendRows}
 use Rattle.rules.specs.Whole.{Whole}
-use Rattle.queries.specs.Promises.{DayTold}
+use Rattle.rules.specs.Queries.{dayQuery}
 use Rattle.settlement_book.specs.Numbers.{bookIn}
 use Rattle.settlement_book.proofs.Answers.{day-in-numbers}
 use borrow.Author.Needs.{needs}
@@ -40,11 +40,10 @@ returns c o whole =
     let named : tie.After-book-of = search in
     let start = start-of named in
     let t = put .put-day .ensures in
-    day-in-numbers (worldIn (bookIn (start .args .book .now)) (lent start o)) _ _
-    (subst (λ (b : Book). DayTold (worldIn b (lent start o)) (start .args .point) (asked .day-without-holder .result))
-    (named .book-of .ensures)
-    (asked .day-without-holder .ensures o (held-whole named o whole)))
-    _ (t .0) _ _ (t .1)
+    let w = worldIn (bookIn (start .args .book .now)) (lent start o) in
+    day-in-numbers w _ _
+    (asked .day-without-holder .ensures o (held-whole named o whole) ∙ ap (λ (b : Book). dayQuery (worldIn b (lent start o)) (start .args .point)) (named .book-of .ensures))
+    _ _ _ (t .0) (t .1)
 
 pub settlement-book-day-without-holder-within-spec : {M : Type 1} → statement M
 settlement-book-day-without-holder-within-spec =

@@ -1,6 +1,7 @@
 -- `settlement_book::put_day` meets its contract: by the case of the answer.
 use mathlib.Core.Path.{sym, ap, _∙_}
-use Rattle.rules.specs.Answers.{dayAnswerNumber}
+use Rattle.rules.specs.Queries.{dayResultNumber}
+use Rattle.rules.specs.Answers.{dayResult}
 use Rattle.settlement_book.specs.Numbers.{dayAfter}
 use borrow.Author.Needs.{needs}
 use Rattle.settlement_book.proofs.numbers.put_day.Statement.{statement}
@@ -28,7 +29,7 @@ returns-3 : tie.Need-returns-3
 returns-3 c =
     let start : tie.Start = search in
     let e = c .before .before .answer2 .given .1 in
-    (c .number .ensures ∙ sym (ap dayAnswerNumber e), sym (ap (λ x. dayAfter x (start .args .day .now)) e))
+    (c .number .ensures ∙ sym (ap (λ x. dayResultNumber (dayResult x)) e), sym (ap (λ x. dayAfter (dayResult x) (start .args .day .now)) e))
 
 pub put-day-spec : {M : Type 1} → statement M
 put-day-spec =
