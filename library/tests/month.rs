@@ -456,10 +456,10 @@ fn the_earliest_day_is_that_of_the_messages_heard() {
     let prices = prices(&[21_000_000, 150_000_000, -30_000, 761_000]);
     let mut random = Random(11);
     let mut named = BTreeMap::new();
-    for _ in 0..400 {
+    for _ in 0..200 {
         let mut book = Book::open(MARCH, counts(4, 3, 4), &elements, &prices).unwrap();
         let mut heard = vec![Heard::default(); 4];
-        for _ in 0..60 {
+        for _ in 0..300 {
             let message = random.message();
             if book.message(&message).is_ok() && message.kind < 6 {
                 let is_fee = message.element == FEE;
@@ -472,6 +472,7 @@ fn the_earliest_day_is_that_of_the_messages_heard() {
             }
         }
     }
-    let seldom = (FIRST..=LAST).find(|day| named.get(&Some(*day)).unwrap_or(&0) < &20);
-    assert_eq!(seldom, None, "{named:?}");
+    // Each day of the month is named often enough to have been tried.
+    let times = |day| named.get(&Some(day)).copied().unwrap_or(0);
+    assert!((FIRST..=LAST).all(|day| times(day) > 100), "{named:?}");
 }

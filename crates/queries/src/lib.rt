@@ -153,7 +153,7 @@ fn lacks_holder(
     false
 }
 
-// The earliest such day of the month. Linear in the days up to it, each at the cost above.
+// The earliest such day of the month. Linear in the days up to it, or in those of the month where there is none, each at the cost above.
 fn find_day(book: Book, links: &[u64], holders: &[u64], states: &[u64], point: u64) -> DayAnswer
     requires { ⌜ PointAsked book (now links) (now holders) (now states) point ⌝ }
     ensures { λ r. ⌜ ((o : Lists) →
@@ -173,9 +173,8 @@ fn find_day(book: Book, links: &[u64], holders: &[u64], states: &[u64], point: u
     DayAnswer::NoDay
 }
 
-// The earliest day of the month on which the point counts but for a missing holder and has a link. Linear in the days up to it, or in all
-// days of the month where there is none; each takes a search for the holder, where there is none one for the state, and where that counts
-// one for each element up to the first that is linked. A search is logarithmic in the rows.
+// The earliest day of the month on which the point counts but for a missing holder and has a link. Linear in the days up to it, or in those
+// of the month where there is none. A day that is held takes one search, logarithmic in the rows; `lacks_holder` says what others take.
 pub fn day_without_holder(
     book: Book,
     links: &[u64],
