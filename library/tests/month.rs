@@ -169,12 +169,16 @@ fn tell(book: &mut Book, message: Fields) {
     assert_eq!(book.message(&message), Ok(&[][..]), "{message:?}");
 }
 
-/// March with two points, two suppliers, a subscription and a fee, after these messages
-/// about point 0.
-fn march(messages: &[Fields]) -> Book {
+/// A month with two points, two suppliers, a subscription and a fee.
+fn open(month: Month) -> Book {
     let elements = [element(1, 1, 0), element(2, 1, 0)];
     let prices = prices(&[20_000_000, 150_000_000]);
-    let mut book = Book::open(MARCH, counts(2, 2, 2), &elements, &prices).unwrap();
+    Book::open(month, counts(2, 2, 2), &elements, &prices).unwrap()
+}
+
+/// March after these messages about point 0.
+fn march(messages: &[Fields]) -> Book {
+    let mut book = open(MARCH);
     for message in messages {
         tell(&mut book, *message);
     }
@@ -277,7 +281,46 @@ fn days_outside_the_month_are_not_named() {
     assert_eq!(earliest(&book), Some(LAST));
     tell(&mut book, holder(FIRST, NOBODY));
     assert_eq!(earliest(&book), Some(FIRST));
-    assert_eq!(book.day_without_holder(1), Ok(None), "the other point");
+}
+
+#[test]
+fn another_point_is_not_looked_at() {
+    let mut book = held_but_on(&[8840]);
+    assert_eq!(book.day_without_holder(1), Ok(None));
+    for mut message in [state(8830, CONNECTED), link(SUBSCRIPTION, 8830)] {
+        message.point = 1;
+        tell(&mut book, message);
+    }
+    assert_eq!(book.day_without_holder(1), Ok(Some(8830)));
+    assert_eq!(earliest(&book), Some(8840));
+}
+
+#[test]
+fn the_first_and_the_last_day_of_months_of_every_length() {
+    for (year, month, first, days) in [
+        (2023, 2, 8432, 28),
+        (2024, 2, 8797, 29),
+        (2024, 4, 8857, 30),
+        (2000, 1, 0, 31),
+        (2099, 12, 36_494, 31),
+    ] {
+        let last = first + days - 1;
+        let mut book = open(Month { year, month });
+        let mut hear = |mut message: Fields| {
+            message.received = first;
+            tell(&mut book, message);
+            earliest(&book)
+        };
+        assert_eq!(hear(state(first, CONNECTED)), None);
+        assert_eq!(hear(link(FEE, last)), Some(last));
+        assert_eq!(hear(link(SUBSCRIPTION, first)), Some(first));
+        assert_eq!(hear(holder(first, 1)), None);
+        assert_eq!(hear(holder(last, NOBODY)), Some(last));
+        assert_eq!(hear(holder(first, NOBODY)), Some(first));
+        assert_eq!(hear(holder(first + 1, 1)), Some(first));
+        assert_eq!(hear(holder(first, 1)), Some(last));
+        assert_eq!(hear(holder(last, 1)), None);
+    }
 }
 
 #[test]
@@ -404,28 +447,26 @@ struct Heard {
 }
 
 impl Heard {
-    fn hear(&mut self, message: &Fields, is_fee: bool) {
+    fn hear(&mut self, message: &Fields) {
         let day = message.day;
         let periods = &mut self.periods[message.element as usize];
-        let next = periods.range(day + 1..).next();
-        let next = next.map_or(36_525, |(first, _)| *first);
-        let covering = periods.range_mut(..=day).next_back();
-        let covering = covering.filter(|(_, past)| **past > day);
         match message.kind {
             1 => {
-                let past = if is_fee { day + 1 } else { next };
-                periods.insert(day, past);
+                let next = periods.range(day + 1..).next();
+                let next = next.map_or(36_525, |(first, _)| *first);
+                let is_fee = message.element == FEE;
+                periods.insert(day, if is_fee { day + 1 } else { next });
             }
             2 => {
-                if let Some((_, past)) = covering {
-                    *past = day;
-                }
                 periods.retain(|first, _| *first < day);
+                for past in periods.values_mut() {
+                    *past = day.min(*past);
+                }
             }
             3 => {
-                let (_, past) = covering.unwrap();
-                let end = std::mem::replace(past, day);
-                periods.insert(day, end);
+                let (_, covering) = periods.range_mut(..=day).next_back().unwrap();
+                let past = std::mem::replace(covering, day);
+                periods.insert(day, past);
             }
             4 => drop(self.holders.insert(day, message.value)),
             5 => drop(self.states.insert(day, message.value)),
@@ -461,9 +502,8 @@ fn the_earliest_day_is_that_of_the_messages_heard() {
         let mut heard = vec![Heard::default(); 4];
         for _ in 0..300 {
             let message = random.message();
-            if book.message(&message).is_ok() && message.kind < 6 {
-                let is_fee = message.element == FEE;
-                heard[message.point as usize].hear(&message, is_fee);
+            if book.message(&message).is_ok() {
+                heard[message.point as usize].hear(&message);
             }
             for (point, heard) in heard.iter().enumerate() {
                 let day = (FIRST..=LAST).find(|day| heard.lacks_holder(*day));

@@ -31,7 +31,8 @@ pub trait Settlement: Sized {
     /// How many periods are recorded for a point and an element.
     fn period_count(&mut self, point: u64, element: u64) -> u64;
 
-    /// A day on which the point counts but for a missing holder and has a link.
+    /// The earliest day of the month on which the point counts but for a missing holder
+    /// and has a link.
     fn day_without_holder(&self, point: u64) -> Option<u64>;
 
     /// Ends the run: a database commits.

@@ -16,9 +16,8 @@ use Rattle.rules.specs.Basics.{anyTo, firstFrom}
 use Rattle.rules.specs.Rows.{quantityOn}
 use Rattle.rules.specs.Sizes.{endOfDays}
 use Rattle.rules.specs.World.{Opening, Tables, monthFirst, monthDays, holderOn, stateOn, countingState, linkedOn}
-use Rattle.rules.specs.Queries.{dayNumber, lacksHolder, earliestLacking}
+use Rattle.rules.specs.Queries.{dayNumber, lacksHolder, earliestWithoutHolder}
 use Rattle.rules.proofs.Tests.{tests, cases}
-use Rattle.rules.proofs.DayQuery.{first-here, first-next}
 use Rattle.rules.specs.Lent.{Lists, worldIn, openingIn, tablesIn, lendRows}
 use Rattle.rules.proofs.Parts.{lengths, dated}
 use Rattle.tables.proofs.Right.{whole-rows}
@@ -29,9 +28,9 @@ use Rattle.queries.proofs.Asks.{day-passed}
 abbrev pub linkedBy : List ℕ → (point day element : ℕ) → Bool
 linkedBy rows p d e = not (eqb (quantityOn rows p e d) 0)
 
--- ---- some number below n
-
 module _ (f : ℕ → Bool) where
+  -- ---- some number below n
+
   pub any-none : anyTo f 0 ≡ false
   unfolding anyTo
   any-none = refl
@@ -49,6 +48,18 @@ module _ (f : ℕ → Bool) where
       (λ e. let z : f n ≡ true = rw (eqb-true i n e) at t in let y : _≡_ {A = Bool} true false = sym z ∙ k in
       absurd (let x : _≡_ {A = ℕ} 0 1 = cc in omega arith))
       (λ e. any-true n i (omega (arith, tests)) t)))
+
+  -- ---- the first of n numbers from a on
+
+  pub first-here : (a n : ℕ) → 0 < n → f a ≡ true → firstFrom f a n ≡ some a
+  unfolding firstFrom
+  first-here a zero l h = absurd (omega arith)
+  first-here a (suc n) l h = rw h
+
+  pub first-next : (a n : ℕ) → 0 < n → f a ≡ false → firstFrom f a n ≡ firstFrom f (a + 1) (n - 1)
+  unfolding firstFrom
+  first-next a zero l h = absurd (omega arith)
+  first-next a (suc n) l h = let e : suc n - 1 ≡ n = omega arith in rw (h, e, add-one a)
 
 -- ---- a day, by the holder, the state and the links
 
@@ -73,32 +84,32 @@ abbrev pub lacksBy : (b : Book) → (links holders states : List ℕ) → (point
 lacksBy b links holders states p o = let t = lendRows links holders states o in lacksHolder (openingIn b t) (tablesIn b t) p
 
 abbrev pub earliestBy : (b : Book) → (links holders states : List ℕ) → (point : ℕ) → Lists → Option ℕ
-earliestBy b links holders states p o = let t = lendRows links holders states o in earliestLacking (openingIn b t) (tablesIn b t) p
+earliestBy b links holders states p o = let t = lendRows links holders states o in earliestWithoutHolder (openingIn b t) (tablesIn b t) p
 
--- the answer is among the days of the month from a date on
+-- the days of the month from a date on give the answer
 pub record Searched (b : Book) (links holders states : List ℕ) (p first days date : ℕ) : Type 0 where
   pub from : 1 ≤ date
   pub upto : date ≤ days + 1
-  pub last : first + days ≤ endOfDays
-  pub left : (o : Lists) → firstFrom (lacksBy b links holders states p o) (first + (date - 1)) (days - (date - 1))
+  pub within : first + days ≤ endOfDays
+  pub rest : (o : Lists) → firstFrom (lacksBy b links holders states p o) (first + (date - 1)) (days - (date - 1))
       ≡ earliestBy b links holders states p o
 
 module _ (b : Book) (links holders states : List ℕ) (p first days : ℕ) where
   pub searched-from : InRange (b .year) (b .month) → first ≡ firstDay (b .year) (b .month) → days ≡ daysOfMonth (b .year) (b .month)
       → Searched b links holders states p first days 1
-  unfolding earliestLacking monthFirst monthDays
+  unfolding earliestWithoutHolder monthFirst monthDays
   searched-from m f d =
       let w = month-within (b .year) (b .month) m in
       let e : first + (1 - 1) ≡ firstDay (b .year) (b .month) = omega arith in
       let k : days - (1 - 1) ≡ daysOfMonth (b .year) (b .month) = omega arith in
-      record { from = omega arith; upto = omega arith; last = omega arith; left = λ o. rw (e, k) }
+      record { from = omega arith; upto = omega arith; within = omega arith; rest = λ o. rw (e, k) }
 
   module _ (date : ℕ) (s : Searched b links holders states p first days date) where
     pub searched-here : date ≤ days → (o : Lists) → lacksBy b links holders states p o (first + (date - 1)) ≡ true
         → some (first + (date - 1)) ≡ earliestBy b links holders states p o
     searched-here l o h =
         let f = s .from in
-        sym (first-here _ (first + (date - 1)) (days - (date - 1)) (omega arith) h) ∙ s .left o
+        sym (first-here _ (first + (date - 1)) (days - (date - 1)) (omega arith) h) ∙ s .rest o
 
     pub searched-more : date ≤ days → ((o : Lists) → lacksBy b links holders states p o (first + (date - 1)) ≡ false)
         → Searched b links holders states p first days (date + 1)
@@ -109,14 +120,14 @@ module _ (b : Book) (links holders states : List ℕ) (p first days : ℕ) where
         record {
           from = omega arith;
           upto = omega arith;
-          last = s .last;
-          left = λ o. rw (← e, ← k)
-              (sym (first-next _ (first + (date - 1)) (days - (date - 1)) (omega arith) (h o)) ∙ s .left o);
+          within = s .within;
+          rest = λ o. rw (← e, ← k)
+              (sym (first-next _ (first + (date - 1)) (days - (date - 1)) (omega arith) (h o)) ∙ s .rest o);
         }
 
     pub searched-all : days < date → (o : Lists) → none ≡ earliestBy b links holders states p o
     unfolding firstFrom
-    searched-all l o = let e : days - (date - 1) ≡ 0 = omega arith in rw e at (s .left o)
+    searched-all l o = let e : days - (date - 1) ≡ 0 = omega arith in rw e at (s .rest o)
 
 -- what the search needs, where no question says no
 pub point-asked : (b : Book) (o : Lists) (p : ℕ) → dayNumber (worldIn b o) p ≡ 0 → PointAsked b (o .links) (o .holders) (o .states) p

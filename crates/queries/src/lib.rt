@@ -9,8 +9,7 @@ ghost use Rattle.rules.specs.Basics.{within, anyTo};
 ghost use Rattle.rules.specs.Sizes.{endOfDays, lineSize, mostElements, mostPoints, mostSuppliers};
 ghost use Rattle.rules.specs.World.{linkedOn};
 ghost use Rattle.rules.specs.Effects.{ask};
-ghost use Rattle.rules.specs.Queries.{periodsNumber, periodsQuery};
-ghost use Rattle.rules.specs.Queries.{DayResult, lacksHolder, earliestLacking, dayQuery};
+ghost use Rattle.rules.specs.Queries.{periodsNumber, periodsQuery, DayResult, lacksHolder, earliestWithoutHolder, dayQuery};
 ghost use Rattle.rules.specs.Answers.{numberOf, dayResult};
 ghost use Rattle.rules.specs.Whole.{Whole};
 ghost use Rattle.rules.specs.Lent.{Lists, worldIn, openingIn, tablesIn, lendLinks, lendRows, lendLines, was};
@@ -158,7 +157,7 @@ fn find_day(book: Book, links: &[u64], holders: &[u64], states: &[u64], point: u
     requires { ⌜ PointAsked book (now links) (now holders) (now states) point ⌝ }
     ensures { λ r. ⌜ ((o : Lists) →
         let t = lendRows (was links) (was holders) (was states) o in
-        dayResult r ≡ DayResult.found (earliestLacking (openingIn book t) (tablesIn book t) point)) ⌝ }
+        dayResult r ≡ DayResult.answered (earliestWithoutHolder (openingIn book t) (tablesIn book t) point)) ⌝ }
 {
     let first = month_first(book);
     let days = month_days(book);
@@ -174,7 +173,7 @@ fn find_day(book: Book, links: &[u64], holders: &[u64], states: &[u64], point: u
 }
 
 // The earliest day of the month on which the point counts but for a missing holder and has a link. Linear in the days up to it, or in those
-// of the month where there is none. A day that is held takes one search, logarithmic in the rows; `lacks_holder` says what others take.
+// of the month where there is none. A day that is held takes one search, logarithmic in the rows, another up to 66 (`lacks_holder`).
 pub fn day_without_holder(
     book: Book,
     links: &[u64],

@@ -1,18 +1,17 @@
 -- The query for the earliest day without a holder: the day that it names is the smallest of the month that lacks one, and where it names
 -- none, no day of the month does. By recursion on the days.
-use Prim.Native.Nat.{ℕ, zero, suc, _+_, _-_, _≤_, _<_}
+use Prim.Native.Nat.{ℕ, zero, suc, _+_, _≤_, _<_}
 use mathlib.Core.Path.{_≡_, sym, _∙_}
 use mathlib.Core.Bool.{Bool, true, false}
 use mathlib.Core.Option.{Option, none, some}
 use lib.Dec.{eqb}
 use borrow.Author.Tests.{eqb-true}
-use native.Mathlib.Numerals.{add-one}
 use native.Mathlib.Omega.{arith}
 use Rattle.calendar.proofs.MonthLaws.{month-within}
 use Rattle.rules.specs.Basics.{firstFrom}
 use Rattle.rules.specs.Sizes.{endOfDays}
 use Rattle.rules.specs.World.{World, monthFirst, monthDays}
-use Rattle.rules.specs.Queries.{DayResult, dayNumber, lacksHolder, earliestLacking, dayQuery, dayResultNumber}
+use Rattle.rules.specs.Queries.{DayResult, dayNumber, lacksHolder, earliestWithoutHolder, dayQuery, dayResultNumber}
 use Rattle.rules.proofs.Tests.{tests, cases}
 use Rattle.rules.proofs.Parts.{lengths}
 use Rattle.rules.proofs.BookLaws.{book-whole}
@@ -25,20 +24,6 @@ pub record Smallest (f : ℕ → Bool) (a n d : ℕ) : Type 0 where
   pub before : (i : ℕ) → a ≤ i → i < d → f i ≡ false
 
 module _ (f : ℕ → Bool) where
-  -- ---- at the first of the numbers, as the code counts
-
-  pub first-here : (a n : ℕ) → 0 < n → f a ≡ true → firstFrom f a n ≡ some a
-  unfolding firstFrom
-  first-here a zero l h = absurd (omega arith)
-  first-here a (suc n) l h = rw h
-
-  pub first-next : (a n : ℕ) → 0 < n → f a ≡ false → firstFrom f a n ≡ firstFrom f (a + 1) (n - 1)
-  unfolding firstFrom
-  first-next a zero l h = absurd (omega arith)
-  first-next a (suc n) l h = let e : suc n - 1 ≡ n = omega arith in rw (h, e, add-one a)
-
-  -- ---- what is found
-
   pub first-none : (a n : ℕ) → firstFrom f a n ≡ none → (i : ℕ) → a ≤ i → i < a + n → f i ≡ false
   unfolding firstFrom
   first-none a zero h i l k = absurd (omega arith)
@@ -72,33 +57,33 @@ module _ (w : World) (p : ℕ) where
   day-number = cases (eqb (dayNumber w p) 0) (λ t. rw t (sym (eqb-true _ _ t))) (λ t. rw t)
 
   -- where no question says no, the days of the month are looked through
-  pub day-found : dayNumber w p ≡ 0 → dayQuery w p ≡ DayResult.found (earliestLacking (w .opening) (w .position .tables) p)
+  pub day-answered : dayNumber w p ≡ 0 → dayQuery w p ≡ DayResult.answered (earliestWithoutHolder (w .opening) (w .position .tables) p)
   unfolding dayQuery
-  day-found h = rw h
+  day-answered h = rw h
 
-  module _ (x : Option ℕ) (h : dayQuery w p ≡ DayResult.found x) where
-    found-open : dayNumber w p ≡ 0
-    found-open = sym day-number ∙ rw h
+  module _ (x : Option ℕ) (h : dayQuery w p ≡ DayResult.answered x) where
+    not-refused : dayNumber w p ≡ 0
+    not-refused = sym day-number ∙ rw h
 
-    found-is : earliestLacking (w .opening) (w .position .tables) p ≡ x
-    found-is = let k = sym (day-found found-open) ∙ h in cc
+    answered-is : earliestWithoutHolder (w .opening) (w .position .tables) p ≡ x
+    answered-is = let k = sym (day-answered not-refused) ∙ h in cc
 
-  pub day-smallest : (d : ℕ) → dayQuery w p ≡ DayResult.found (some d)
+  pub day-smallest : (d : ℕ) → dayQuery w p ≡ DayResult.answered (some d)
       → Smallest (lacksHolder (w .opening) (w .position .tables) p) (monthFirst (w .opening)) (monthDays (w .opening)) d
-  unfolding earliestLacking
-  day-smallest d h = first-some _ _ _ d (found-is (some d) h)
+  unfolding earliestWithoutHolder
+  day-smallest d h = first-some _ _ _ d (answered-is (some d) h)
 
-  pub day-none : dayQuery w p ≡ DayResult.found none
+  pub day-none : dayQuery w p ≡ DayResult.answered none
       → (d : ℕ) → monthFirst (w .opening) ≤ d → d < monthFirst (w .opening) + monthDays (w .opening)
       → lacksHolder (w .opening) (w .position .tables) p d ≡ false
-  unfolding earliestLacking
-  day-none h = first-none _ _ _ (found-is none h)
+  unfolding earliestWithoutHolder
+  day-none h = first-none _ _ _ (answered-is none h)
 
   -- a day that is named is one of the calendar
-  pub day-below : (d : ℕ) → dayQuery w p ≡ DayResult.found (some d) → d < endOfDays
+  pub day-below : (d : ℕ) → dayQuery w p ≡ DayResult.answered (some d) → d < endOfDays
   unfolding dayNumber monthFirst monthDays
   day-below d h =
       let s = day-smallest d h .upto in
-      let whole = book-whole w _ (found-open (some d) h) .0 in
+      let whole = book-whole w _ (not-refused (some d) h) .0 in
       let m = month-within (w .opening .year) (w .opening .month) (lengths w whole .limited .month) in
       omega arith

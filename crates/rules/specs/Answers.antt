@@ -40,6 +40,6 @@ lineResult (LineAnswer.Refused a) = lineRefused (numberOf a)
 
 -- the number and the day of an answer to the query for the earliest day without a holder
 abbrev pub dayResult : DayAnswer → DayResult
-dayResult (DayAnswer.Day d) = DayResult.found (some d)
-dayResult DayAnswer.NoDay = DayResult.found none
+dayResult (DayAnswer.Day d) = DayResult.answered (some d)
+dayResult DayAnswer.NoDay = DayResult.answered none
 dayResult (DayAnswer.Refused a) = DayResult.refused (numberOf a)

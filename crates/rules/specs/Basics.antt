@@ -1,5 +1,5 @@
--- Tests over ranges and lists, the first number that passes one, and the latest of dated values: the words that the definitions of
--- document 01 are written in.
+-- Tests over ranges and lists, the first number that passes one, and the latest of dated values: the words that the definitions are written
+-- in.
 use Prim.Native.Nat.{ℕ, zero, suc}
 use mathlib.Core.Bool.{Bool, true, false, _&&_, _||_, cond}
 use mathlib.Core.List.{List, [], _∷_, _++_}

@@ -73,7 +73,7 @@ periodsQuery w p e = cond (eqb (periodsNumber w p e) 0) (pairRows p e (rowsOf (w
 
 -- its answer: the day, or none where there is none; or the number of a question
 pub data DayResult : Type 0 where
-  found : (day : Option ℕ) → DayResult
+  answered : (day : Option ℕ) → DayResult
   refused : (number : ℕ) → DayResult
 
 unfoldable pub dayNumber : World → (point : ℕ) → ℕ
@@ -85,16 +85,16 @@ lacksHolder o t p d =
     eqb (holderOn t p d) 0 && (countingState (stateOn t p d) && anyTo (λ e. linkedOn t p e d) (o .elements))
 
 -- "The query that names some such day shall name the earliest in the month."
-unfoldable pub earliestLacking : Opening → Tables → (point : ℕ) → Option ℕ
-earliestLacking o t p = firstFrom (lacksHolder o t p) (monthFirst o) (monthDays o)
+unfoldable pub earliestWithoutHolder : Opening → Tables → (point : ℕ) → Option ℕ
+earliestWithoutHolder o t p = firstFrom (lacksHolder o t p) (monthFirst o) (monthDays o)
 
 unfoldable pub dayQuery : World → (point : ℕ) → DayResult
 dayQuery w p =
     cond (eqb (dayNumber w p) 0)
-    (DayResult.found (earliestLacking (w .opening) (w .position .tables) p))
+    (DayResult.answered (earliestWithoutHolder (w .opening) (w .position .tables) p))
     (DayResult.refused (dayNumber w p))
 
 -- the number of an answer: 0 where no question says no
 abbrev pub dayResultNumber : DayResult → ℕ
-dayResultNumber (DayResult.found day) = 0
+dayResultNumber (DayResult.answered day) = 0
 dayResultNumber (DayResult.refused number) = number

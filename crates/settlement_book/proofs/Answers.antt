@@ -1,5 +1,5 @@
 -- The answers of the inner functions, said in numbers.
-use Prim.Native.Nat.{ℕ, _+_, _≤_, _<_}
+use Prim.Native.Nat.{ℕ}
 use native.Mathlib.Omega.{arith}
 use mathlib.Core.Path.{_≡_, refl, sym, ap, subst, _∙_}
 use mathlib.Core.Logic.{_≢_}
@@ -28,7 +28,7 @@ use Rattle.rules.proofs.Tests.{cases, both}
 use Rattle.rules.specs.Whole.{Whole}
 use Rattle.rules.proofs.Stored.{billionths-lt}
 use Rattle.rules.proofs.LineQuery.{query-stored}
-use Rattle.rules.proofs.DayQuery.{day-number, day-found, day-below}
+use Rattle.rules.proofs.DayQuery.{day-number, day-answered, day-below}
 use Rattle.rules.proofs.Begin.{passed, begin-whole}
 use Rattle.rules.proofs.Parts.{limits}
 use Rattle.rules.proofs.BookLaws.{book-refused}
@@ -139,19 +139,19 @@ day-no-book w p r h z lent =
 
 -- where no question says no, a number below 36,525 is the day that is named, and any other says that there is none
 module _ (w : World) (p lent out : ℕ) (h : DayIn w p 0 lent out) where
-  read-back : (x : DayResult) → dayQuery w p ≡ x → dayQuery w p ≡ DayResult.found (when (ltb out noDay) out)
+  read-back : (x : DayResult) → dayQuery w p ≡ x → dayQuery w p ≡ DayResult.answered (when (ltb out noDay) out)
   unfolding when
-  read-back (DayResult.found (some d)) e =
+  read-back (DayResult.answered (some d)) e =
       let o : out ≡ d = h .day ∙ ap (λ (x : DayResult). dayAfter x lent) e in
       rw (o, lt-ltb d noDay (day-below w p d e)) e
-  read-back (DayResult.found none) e =
+  read-back (DayResult.answered none) e =
       let o : out ≡ noDay = h .day ∙ ap (λ (x : DayResult). dayAfter x lent) e in
       rw o e
   read-back (DayResult.refused n) e =
-      let z = sym (day-found w p (sym (h .number))) ∙ e in
+      let z = sym (day-answered w p (sym (h .number))) ∙ e in
       absurd (let x : _≡_ {A = ℕ} 0 1 = cc in omega arith)
 
-  pub day-read-back : dayQuery w p ≡ DayResult.found (when (ltb out noDay) out)
+  pub day-read-back : dayQuery w p ≡ DayResult.answered (when (ltb out noDay) out)
   day-read-back = read-back (dayQuery w p) refl
 
 -- ---- an opening

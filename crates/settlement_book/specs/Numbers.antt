@@ -93,6 +93,6 @@ noDay = endOfDays
 
 -- a lent day afterwards: a refusal leaves it
 abbrev pub dayAfter : DayResult → (lent : ℕ) → ℕ
-dayAfter (DayResult.found (some d)) lent = d
-dayAfter (DayResult.found none) lent = noDay
+dayAfter (DayResult.answered (some d)) lent = d
+dayAfter (DayResult.answered none) lent = noDay
 dayAfter (DayResult.refused number) lent = lent

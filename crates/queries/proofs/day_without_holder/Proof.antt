@@ -4,7 +4,7 @@ use borrow.Author.Tests.{ne-eqb}
 use Rattle.rules.specs.Queries.{dayNumber, dayQuery}
 use Rattle.rules.specs.Answers.{numberOf}
 use Rattle.rules.specs.Whole.{Whole}
-use Rattle.rules.proofs.DayQuery.{day-found}
+use Rattle.rules.proofs.DayQuery.{day-answered}
 use Rattle.rules.specs.Lent.{Lists, worldIn, lendRows}
 use Rattle.queries.proofs.Asks.{day-asks}
 use Rattle.queries.proofs.Lacks.{point-asked}
@@ -43,7 +43,7 @@ returns c o whole =
     let asked : tie.After-ask-point = search in
     let passed : tie.Then1 = search in
     let numbered : tie.After-number = search in
-    c .find-day .ensures o ∙ sym (day-found _ _ (sym (number-is asked o whole) ∙ sym (numbered .number .ensures) ∙ passed .if1 .taken))
+    c .find-day .ensures o ∙ sym (day-answered _ _ (sym (number-is asked o whole) ∙ sym (numbered .number .ensures) ∙ passed .if1 .taken))
 
 returns-2 : tie.Need-returns-2
 unfolding dayQuery

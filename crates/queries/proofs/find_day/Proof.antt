@@ -1,4 +1,4 @@
--- `queries::find_day` meets its contract: the answer is among the days from the date on, and the first that lacks a holder is it.
+-- `queries::find_day` meets its contract: the days from the date on give the answer, and the first that lacks a holder is it.
 use Prim.Native.Nat.{_+_, _-_}
 use mathlib.Core.Path.{sym, ap, _∙_}
 use Rattle.rules.specs.Queries.{DayResult}
@@ -41,7 +41,7 @@ returns c o =
     let s : tie.Start Inv-loop μ-loop = search in
     let l : tie.At-loop Inv-loop μ-loop = search in
     let a = s .args in
-    ap DayResult.found (searched-here (a .book) (a .links .now) (a .holders .now) (a .states .now) (a .point) _ _ _ (l .loop .inv)
+    ap DayResult.answered (searched-here (a .book) (a .links .now) (a .holders .now) (a .states .now) (a .point) _ _ _ (l .loop .inv)
     (omega arith) o (sym (c .before .lacks-holder .ensures o) ∙ c .if1 .taken))
 
 add-date : tie.Need-add-date Inv-loop μ-loop
@@ -63,7 +63,7 @@ returns-2 c o =
     let s : tie.Start Inv-loop μ-loop = search in
     let l : tie.At-loop Inv-loop μ-loop = search in
     let a = s .args in
-    ap DayResult.found (searched-all (a .book) (a .links .now) (a .holders .now) (a .states .now) (a .point) _ _ _ (l .loop .inv)
+    ap DayResult.answered (searched-all (a .book) (a .links .now) (a .holders .now) (a .states .now) (a .point) _ _ _ (l .loop .inv)
     (omega arith) o)
 
 pub find-day-spec : {M : Type 1} → statement M

@@ -42,7 +42,8 @@ returns c o whole =
     let t = put .put-day .ensures in
     let w = worldIn (bookIn (start .args .book .now)) (lent start o) in
     day-in-numbers w _ _
-    (asked .day-without-holder .ensures o (held-whole named o whole) ∙ ap (λ (b : Book). dayQuery (worldIn b (lent start o)) (start .args .point)) (named .book-of .ensures))
+    (asked .day-without-holder .ensures o (held-whole named o whole)
+    ∙ ap (λ (b : Book). dayQuery (worldIn b (lent start o)) (start .args .point)) (named .book-of .ensures))
     _ _ _ (t .0) (t .1)
 
 pub settlement-book-day-without-holder-within-spec : {M : Type 1} → statement M
