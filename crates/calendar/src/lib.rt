@@ -11,11 +11,14 @@ pub const LAST_YEAR: u64 = 2099;
 
 pub const YEAR_MONTHS: u64 = 12;
 
+// The months of those years.
+pub const MONTHS: usize = 1200;
+
 // The days of the longest month.
 pub const LONGEST_MONTH: usize = 31;
 
-// The first days of the 1,200 months, and behind them the day after the last.
-const FIRST_DAYS: [u64; 1201] = [
+// The first days of the months, and behind them the day after the last.
+const FIRST_DAYS: [u64; MONTHS + 1] = [
     0,
     31,
     60,
@@ -1220,7 +1223,7 @@ const FIRST_DAYS: [u64; 1201] = [
 ];
 
 // The first day of the month that lies `number` months after January 2000.
-fn first_of(number: usize) -> u64
+pub fn first_of(number: usize) -> u64
     requires { ⌜ number < listedMonths ⌝ }
     ensures { λ r. ⌜ r ≡ firstOf number ⌝ }
 {

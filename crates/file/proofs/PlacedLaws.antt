@@ -58,11 +58,32 @@ module _ {A : Type 0} where
       → set (placed xs at ys) (at + k) v ≡ placed xs at (ys ++ (v ∷ []))
   placed-next xs at ys v k e h = let l : at + length ys < length xs = rw e h in rw (← e) (placed-more xs at ys v l)
 
+-- a list in which others were placed: its front up to their end, and what is behind it
+module _ {A : Type 0} (xs : List A) (at : ℕ) (ys : List A) (n : ℕ) (h : at ≤ length xs) (e : n ≡ at + length ys) where
+  placed-end : length (take at xs ++ ys) ≡ n
+  placed-end = length-append (take at xs) ys ∙ ap (λ k. k + length ys) (length-take-le at xs h) ∙ sym e
+
+  pub placed-front : take n (placed xs at ys) ≡ take at xs ++ ys
+  unfolding placed
+  placed-front = take-at (take at xs ++ ys) (drop (at + length ys) xs) n placed-end
+
+  pub placed-behind : drop n (placed xs at ys) ≡ drop n xs
+  unfolding placed
+  placed-behind = drop-at (take at xs ++ ys) (drop (at + length ys) xs) n placed-end ∙ rw e
+
 -- the first i + 1 entries of a text
 pub placed-first : (xs : List ℕ) (at : ℕ) (text : List ℕ) (i : ℕ) → at + i < length xs → i < length text
     → set (placed xs at (take i text)) (at + i) (getD text i 0) ≡ placed xs at (take (i + 1) text)
 placed-first xs at text i h k =
     rw (add-one i, take-suc text i 0 k) (placed-next xs at (take i text) (getD text i 0) i (length-take-le i text (omega arith)) h)
+
+-- nothing
+pub nothing-written : (most : ℕ) (out : List ℕ) (from : ℕ) → Written most out out from from []
+nothing-written most out from = record { is = placed-none out from; end = omega arith; short = omega arith }
+
+-- what is written leaves the output as long as it was
+pub written-long : {k at n : ℕ} {a b t : List ℕ} → Written k a b at n t → at + k ≤ length a → length b ≡ length a
+written-long {at = at} {a = a} {t = t} w h = ap length (w .is) ∙ placed-length a at t (omega (arith, w .short))
 
 -- one byte is a text
 pub one-written : (xs : List ℕ) (at b : ℕ) → at < length xs → Written 1 xs (set xs at b) at (at + 1) (b ∷ [])

@@ -23,7 +23,7 @@ use Rattle.file.specs.declared.fields.Found.the-variants.{Month, Element, Messa
 use Rattle.file.specs.Field.{headerSize, fieldSize}
 use Rattle.file.specs.Lines.{refusedLine, longestLine, Written}
 use Rattle.file.specs.Program.{endedBy, settleRecords, settlePoints, answered, Heading, describedAll, pricesAll}
-use Rattle.file.proofs.PlacedLaws.{loosened}
+use Rattle.file.proofs.PlacedLaws.{nothing-written, loosened}
 use Rattle.runner.specs.declared.Progress.{Progress}
 use Rattle.runner.specs.declared.Advanced.{Advanced}
 use Rattle.runner.specs.Stages.{Stage, Move, start, elements, messages, over, quiet, broken, moveOn, isMore}
@@ -33,7 +33,7 @@ use Rattle.runner.specs.Texts.{longestText, advancedTo, waitsAt, replyTe
 use Rattle.runner.specs.Holding.{HoldsValues, Represents, Advances}
 use Rattle.runner.proofs.StageLaws.{never}
 use Rattle.runner.proofs.PartLaws.{within, AsLong, putBack, parts-back, ends-stay, points-stay}
-use Rattle.runner.proofs.TextLaws.{nothing-written, reply-text}
+use Rattle.runner.proofs.TextLaws.{reply-text}
 
 -- the run ends with question 1
 pub arm-broken : (at : ℕ) (b : Book) (r : Advanced) (t : Lists) (out after : List ℕ) (from written number : ℕ)

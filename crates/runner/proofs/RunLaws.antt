@@ -18,6 +18,7 @@ use Rattle.file.specs.declared.fields.Found.the-variants.{Month, Element, Messa
 use Rattle.file.specs.Field.{tagOf, monthIn, fieldNamed, rightField, wholeField, fieldOf, fieldIn, fieldSize, Inside}
 use Rattle.file.specs.Program.{settleAnswer, collected, settled}
 use Rattle.file.proofs.FieldLaws.{whole-rest, front-decides, Undecided, inside-in, inside-at}
+use Rattle.file.proofs.PlacedLaws.{placed-front, placed-behind}
 use Rattle.runner.specs.declared.Progress.{Progress}
 use Rattle.runner.specs.declared.Advanced.{Advanced}
 use Rattle.runner.specs.Stages.{Stage, start, elements, messages, over, phaseOf, printed, Move, broken, openedTo, opening, moveOn}
@@ -28,7 +29,6 @@ use Rattle.runner.specs.Texts.{longestText, lastNumber}
 use Rattle.runner.specs.Holding.{Represents, Stands, Advances, canGoOn, Reached, longestField, Stopped}
 use Rattle.runner.proofs.StageLaws.{never, move-from, next-inside, pieces}
 use Rattle.runner.proofs.ArmLaws.{wait-move}
-use Rattle.runner.proofs.ValueLaws.{placed-front, placed-behind}
 
 -- ---- where more bytes are needed, the input does not end with those in hand, and few are left
 

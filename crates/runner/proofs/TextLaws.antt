@@ -27,17 +27,9 @@ use Rattle.settlement.specs.Replies.{roomIn, Replied}
 use Rattle.file.specs.declared.fields.Phase.{Phase}
 use Rattle.file.specs.Lines.{bookLine, recordLine, refusedLine, longestLine, Written}
 use Rattle.file.specs.Program.{settleRecords, recordLines, answered}
-use Rattle.file.proofs.PlacedLaws.{placed-none, placed-length, joined, loosened}
+use Rattle.file.proofs.PlacedLaws.{nothing-written, joined, loosened}
 use Rattle.runner.specs.declared.Advanced.{Advanced}
 use Rattle.runner.specs.Texts.{longestText, advancedTo, openedOver, openingText, replyText}
-
--- nothing
-pub nothing-written : (most : ℕ) (out : List ℕ) (from : ℕ) → Written most out out from from []
-nothing-written most out from = record { is = placed-none out from; end = omega arith; short = omega arith }
-
--- what is written leaves the output as long as it was
-pub written-long : {k at n : ℕ} {a b t : List ℕ} → Written k a b at n t → at + k ≤ length a → length b ≡ length a
-written-long {at = at} {a = a} {t = t} w h = ap length (w .is) ∙ placed-length a at t (omega (arith, w .short))
 
 -- ---- the lines of the first records
 

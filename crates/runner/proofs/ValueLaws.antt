@@ -5,28 +5,15 @@ use mathlib.Core.Path.{_≡_, sym, ap, _∙_}
 use mathlib.Core.List.{List, [], _∷_, _++_, append-assoc, append-nil}
 use lib.IntN.{ℤ}
 use lib.ListN.{length, take, drop, length-append}
-use lib.Seq.{length-take-le, take-at, drop-at}
+use lib.Seq.{length-take-le}
 use Rattle.rules.specs.Sizes.{elementSize, mostElements, pricePlaces}
 use Rattle.rules.specs.declared.Book.{Book}
 use Rattle.rules.proofs.Ranges.{length-listTo}
 use Rattle.recording.specs.Opened.{namedBook}
-use Rattle.file.specs.Bytes.{placed}
 use Rattle.file.specs.Element.{priceAt, pricesIn, elementBytes, elementPrices}
 use Rattle.file.specs.Program.{Heading, describedAll, pricesAll}
+use Rattle.file.proofs.PlacedLaws.{placed-front}
 use Rattle.runner.specs.Holding.{HoldsValues, counted}
-
--- a list in which others were placed: its front up to their end, and what is behind it
-module _ {A : Type 0} (xs : List A) (at : ℕ) (ys : List A) (n : ℕ) (h : at ≤ length xs) (e : n ≡ at + length ys) where
-  placed-end : length (take at xs ++ ys) ≡ n
-  placed-end = length-append (take at xs) ys ∙ ap (λ k. k + length ys) (length-take-le at xs h) ∙ sym e
-
-  pub placed-front : take n (placed xs at ys) ≡ take at xs ++ ys
-  unfolding placed
-  placed-front = take-at (take at xs ++ ys) (drop (at + length ys) xs) n placed-end
-
-  pub placed-behind : drop n (placed xs at ys) ≡ drop n xs
-  unfolding placed
-  placed-behind = drop-at (take at xs ++ ys) (drop (at + length ys) xs) n placed-end ∙ rw e
 
 described-more : (values : List (List ℕ)) (value : List ℕ) → describedAll (values ++ (value ∷ []))
     ≡ describedAll values ++ take elementSize value

@@ -6,7 +6,8 @@ use Rattle.rules.specs.Basics.{listTo}
 use Rattle.ledger.specs.RecordNumbers.{recordAt}
 use Rattle.file.specs.Lines.{longestLine, Written}
 use Rattle.file.specs.Program.{recordLines}
-use Rattle.runner.proofs.TextLaws.{written-long, no-lines, line-more, line-fits, listed-at}
+use Rattle.file.proofs.PlacedLaws.{written-long}
+use Rattle.runner.proofs.TextLaws.{no-lines, line-more, line-fits, listed-at}
 use native.Mathlib.Omega.{arith}
 use borrow.Author.Needs.{needs}
 use Rattle.runner.proofs.texts.put_records.Statement.{statement}

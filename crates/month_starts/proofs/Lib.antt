@@ -1,0 +1,3 @@
+-- Laws of the lines that the program prints.
+pub mod LineLaws
+pub mod Loading
