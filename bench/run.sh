@@ -14,7 +14,7 @@ library=target/library/release/library-settle
 settle=../target/bin/settle
 
 [[ -f ../target/staticlib/libsettlement_book.a ]] || rt staticlib settlement_book >&2
-[[ -x $settle ]] || ../program/build >&2
+[[ -x $settle ]] || ../program/build settle >&2
 cargo build --release --offline --quiet
 CARGO_TARGET_DIR=target/fresh cargo build --release --offline --quiet --manifest-path ../rust/Cargo.toml
 CARGO_TARGET_DIR=target/library cargo build --release --offline --quiet --manifest-path ../library/Cargo.toml

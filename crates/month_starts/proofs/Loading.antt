@@ -1,13 +1,13 @@
 -- What is printed can be loaded: a system that reads the digits of each line up to its end gets the numbers back. By the digits of each
 -- number, then by recursion over the numbers. A check of the definition, which no other proof cites.
-use Prim.Native.Nat.{ℕ, _+_, _-_, _*_, _/_, _%_, _≤_, _<_}
+use Prim.Native.Nat.{ℕ, _+_, _-_, _*_, _/_, _%_}
 use mathlib.Core.Path.{_≡_, refl, ap, _∙_}
 use mathlib.Core.Bool.{cond}
 use mathlib.Core.List.{List, [], _∷_, _++_, append-assoc}
 use lib.Dec.{eqb}
 use native.Mathlib.Omega.{arith}
 use borrow.Author.Tests.{ne-eqb}
-use Rattle.file.specs.Lines.{newline, numberThen}
+use Rattle.file.specs.Lines.{newline}
 use Rattle.file.specs.Decimal.{decimal, digit, zeroDigit}
 use Rattle.file.proofs.DecimalLaws.{decimal-small, decimal-more, by-digits}
 use Rattle.month_starts.specs.MonthStarts.{monthStarts, numberLines, monthText}

@@ -1,10 +1,10 @@
 -- `agrees_with_table` meets its contract: both numbers are the rule's first day, so no turn finds them different.
 use Prim.Native.Nat.{_-_, _≤_}
-use mathlib.Core.Path.{_≡_, sym, _∙_}
+use mathlib.Core.Path.{sym}
 use native.Mathlib.Omega.{arith}
 use borrow.Author.Needs.{needs}
 use Rattle.calendar.specs.Gregorian.{firstOf, listedMonths}
-use Rattle.rules.proofs.Ranges.{length-listTo, getD-listTo}
+use Rattle.rules.proofs.Ranges.{getD-listTo}
 use Rattle.month_starts.proofs.agrees_with_table.Statement.{statement}
 use Rattle.month_starts.proofs.agrees_with_table.Tie as tie
 

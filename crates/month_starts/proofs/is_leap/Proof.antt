@@ -1,5 +1,4 @@
 -- `is_leap` meets its contract: the three divisions one after the other, as the definition has them.
-use mathlib.Core.Path.{_≡_, sym}
 use borrow.Author.Tests.{eq-eqb, ne-eqb}
 use Rattle.calendar.specs.Gregorian.{isLeap}
 use Rattle.month_starts.proofs.is_leap.Statement.{statement}

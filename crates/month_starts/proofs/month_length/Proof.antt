@@ -1,6 +1,6 @@
 -- `month_length` meets its contract: the month is the one of the arm, or none of those that have an arm.
 use Prim.Native.Nat.{ℕ}
-use mathlib.Core.Path.{_≡_, refl, sym, _∙_}
+use mathlib.Core.Path.{_≡_, sym, _∙_}
 use mathlib.Core.Logic.{_⊎_, inl, inr}
 use mathlib.Core.Bool.{Bool, true, false, cond}
 use borrow.Author.Tests.{ne-eqb}
@@ -24,12 +24,10 @@ is-leap-requires : tie.Need-is-leap-requires
 is-leap-requires c κs = search needs
 
 returns : tie.Need-returns
-returns c =
-    february _ _ true (c .before .before .match .keys1) (sym (c .before .is-leap .ensures) ∙ c .if1 .taken)
+returns c = february _ _ true (c .before .before .match .keys1) (sym (c .before .is-leap .ensures) ∙ c .if1 .taken)
 
 returns-2 : tie.Need-returns-2
-returns-2 c =
-    february _ _ false (c .before .before .match .keys1) (sym (c .before .is-leap .ensures) ∙ c .if1 .left)
+returns-2 c = february _ _ false (c .before .before .match .keys1) (sym (c .before .is-leap .ensures) ∙ c .if1 .left)
 
 returns-3 : tie.Need-returns-3
 returns-3 c = thirty _ _ (c .match .keys2)

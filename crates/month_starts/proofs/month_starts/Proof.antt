@@ -1,12 +1,12 @@
 -- `month_starts` meets its contract. The invariant: the first entries are the first month starts, and `day` is the next.
-use Prim.Native.Nat.{_+_, _-_, _/_, _%_, _≤_, _<_}
+use Prim.Native.Nat.{_+_, _-_, _/_, _%_, _≤_}
 use mathlib.Core.Path.{_≡_, refl, sym, ap, _∙_}
 use lib.ListN.{length, take, length-set}
 use lib.Seq.{take-all, take-suc-set}
 use native.Mathlib.Numerals.{add-one}
 use native.Mathlib.Omega.{arith}
 use borrow.Author.Needs.{needs}
-use Rattle.calendar.specs.Gregorian.{daysOfMonth, daysAfter, firstOf, listedMonths, firstYear, yearMonths}
+use Rattle.calendar.specs.Gregorian.{firstOf, listedMonths, firstYear, yearMonths}
 use Rattle.calendar.proofs.MonthLaws.{days-range, first-more, first-ordered, first-last}
 use Rattle.rules.specs.Basics.{listTo}
 use Rattle.month_starts.proofs.month_starts.Statement.{statement}
@@ -32,7 +32,7 @@ array-write-starts c = search needs
 length-after-requires : tie.Need-length-after-requires Inv-loop μ-loop
 length-after-requires c κs = search needs
 
--- a month start before the last is at most 36,525, and a month has at most 31 days
+-- a month start is at most 36,525, and a month has at most 31 days
 add-day : tie.Need-add-day Inv-loop μ-loop
 add-day c =
     let l = c .before .before .loop in
