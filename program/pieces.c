@@ -1,9 +1,13 @@
-/* A `read` that gives standard input in pieces of odd sizes and is interrupted every third time, and a `write` that takes standard output in
-   such pieces: loaded before the C library's for a test. */
+/* A `read` that gives standard input in pieces of odd sizes and is interrupted every third time, and a `write` that takes standard output
+   in such pieces, up to INTERRUPTED of them where that is defined, and is then interrupted: loaded before the C library's for a test. */
 #define _GNU_SOURCE
 #include <dlfcn.h>
 #include <errno.h>
 #include <unistd.h>
+
+#ifndef INTERRUPTED
+#define INTERRUPTED -1u
+#endif
 
 typedef ssize_t (*read_function)(int, void *, size_t);
 typedef ssize_t (*write_function)(int, const void *, size_t);
@@ -41,5 +45,9 @@ ssize_t write(int file, const void *buffer, size_t size)
     if (file != STDOUT_FILENO)
         return next(file, buffer, size);
     calls++;
+    if (calls > INTERRUPTED) {
+        errno = EINTR;
+        return -1;
+    }
     return next(file, buffer, at_most(size, calls));
 }

@@ -1,5 +1,5 @@
--- Laws of a list with other entries from a place on: one more entry, a second piece behind the first, the length; and of texts written one
--- behind the other. The pieces are cut at their lengths. Assumes nothing.
+-- Laws of a list with other entries from a place on: one more entry, a second piece behind the first, the length, what stands before their
+-- end and behind it; and of texts: none, one byte, one behind the other. The pieces are cut at their lengths. Assumes nothing.
 use Prim.Native.Nat.{ℕ, suc, _+_, _≤_, _<_}
 use mathlib.Core.Path.{_≡_, refl, sym, ap, _∙_}
 use mathlib.Core.List.{List, [], _∷_, _++_, append-assoc}
@@ -61,7 +61,7 @@ module _ {A : Type 0} where
 -- a list in which others were placed: its front up to their end, and what is behind it
 module _ {A : Type 0} (xs : List A) (at : ℕ) (ys : List A) (n : ℕ) (h : at ≤ length xs) (e : n ≡ at + length ys) where
   placed-end : length (take at xs ++ ys) ≡ n
-  placed-end = length-append (take at xs) ys ∙ ap (λ k. k + length ys) (length-take-le at xs h) ∙ sym e
+  placed-end = front-length xs at ys h ∙ sym e
 
   pub placed-front : take n (placed xs at ys) ≡ take at xs ++ ys
   unfolding placed
@@ -77,7 +77,7 @@ pub placed-first : (xs : List ℕ) (at : ℕ) (text : List ℕ) (i : ℕ) → at
 placed-first xs at text i h k =
     rw (add-one i, take-suc text i 0 k) (placed-next xs at (take i text) (getD text i 0) i (length-take-le i text (omega arith)) h)
 
--- nothing
+-- where nothing is put, the text is empty
 pub nothing-written : (most : ℕ) (out : List ℕ) (from : ℕ) → Written most out out from from []
 nothing-written most out from = record { is = placed-none out from; end = omega arith; short = omega arith }
 

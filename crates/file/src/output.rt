@@ -12,6 +12,9 @@ ghost use Rattle.file.specs.Lines.{numberThen, signedThen, bookLine, rec
 ghost use Rattle.file.specs.Lines.{numberWidth, signedWidth, namesWidth, longestLine, Written};
 ghost use Rattle.rules.specs.Lent.{left, was};
 
+// Room for a number of 64 bits and the byte behind it.
+pub const NUMBER_WIDTH: usize = 21;
+
 // Room for the longest line, which is a record's.
 pub const LONGEST_LINE: usize = 135;
 

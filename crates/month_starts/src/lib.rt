@@ -1,8 +1,9 @@
 // `month_starts` prints the first days of the 1,200 months from January 2000 on, and behind them the day after the last, one number a line.
-// It adds up the lengths of the months by the leap-year rule and does not read the table that the book uses; `agrees_with_table` compares
-// the two.
+// It adds up the lengths of the months by the leap-year rule and does not read the table that the book uses: only `comparison` does.
+pub mod comparison;
+
 ghost use mathlib.Core.Path.{_≡_};
-ghost use mathlib.Core.Bool.{Bool, true};
+ghost use mathlib.Core.Bool.{Bool};
 ghost use Prim.Native.Nat.{_*_, _≤_, _<_};
 ghost use lib.ListN.{length};
 ghost use Rattle.calendar.specs.Gregorian.{isLeap, daysOfMonth, daysAfter, listedMonths};
@@ -12,7 +13,7 @@ ghost use Rattle.month_starts.specs.MonthStarts.{monthStarts, numberLine
 use calendar::FIRST_YEAR;
 use calendar::MONTHS;
 use calendar::YEAR_MONTHS;
-use calendar::first_of;
+use file::output::NUMBER_WIDTH;
 use file::output::put_number_then;
 use libc::STDOUT_FILENO;
 
@@ -68,27 +69,10 @@ pub fn month_starts() -> [u64; MONTHS + 1]
     starts
 }
 
-// Whether they are the entries of the table that the book uses, one by one: they are. Nothing calls it; it stands here for its promise.
-pub fn agrees_with_table() -> bool
-    ensures { λ r. ⌜ r ≡ true ⌝ }
-{
-    let starts = month_starts();
-    let mut entry = 0;
-    while entry <= MONTHS {
-        if starts[entry] != first_of(entry) {
-            return false;
-        }
-        entry += 1;
-    }
-    true
-}
-
 // ---- what is printed
 
-// Room for a number of 64 bits and the end of its line.
-const LINE_PLACES: usize = 21;
-
-const TEXT_PLACES: usize = (MONTHS + 1) * LINE_PLACES;
+// Room for a line of each.
+const TEXT_PLACES: usize = (MONTHS + 1) * NUMBER_WIDTH;
 
 fn no_text() -> [u8; TEXT_PLACES]
     ensures { λ r. ⌜ listedMonths * numberWidth ≡ length r ⌝ }

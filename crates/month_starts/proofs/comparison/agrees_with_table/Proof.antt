@@ -5,8 +5,8 @@ use native.Mathlib.Omega.{arith}
 use borrow.Author.Needs.{needs}
 use Rattle.calendar.specs.Gregorian.{firstOf, listedMonths}
 use Rattle.rules.proofs.Ranges.{getD-listTo}
-use Rattle.month_starts.proofs.agrees_with_table.Statement.{statement}
-use Rattle.month_starts.proofs.agrees_with_table.Tie as tie
+use Rattle.month_starts.proofs.comparison.agrees_with_table.Statement.{statement}
+use Rattle.month_starts.proofs.comparison.agrees_with_table.Tie as tie
 
 abbrev Inv-loop : tie.InvT-loop
 Inv-loop starts entry₀ entry = entry ≤ listedMonths
