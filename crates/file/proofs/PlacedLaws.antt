@@ -1,8 +1,10 @@
 -- Laws of a list with other entries from a place on: one more entry, a second piece behind the first, the length, what stands before their
--- end and behind it; and of texts: none, one byte, one behind the other. The pieces are cut at their lengths. Assumes nothing.
-use Prim.Native.Nat.{ℕ, suc, _+_, _≤_, _<_}
+-- end and behind it; and of texts: none, one byte, one behind the other, those of many entries. The pieces are cut at their lengths.
+-- Assumes nothing.
+use Prim.Native.Nat.{ℕ, suc, _+_, _*_, _≤_, _<_}
+use native.Mathlib.Nat.{suc-mul, mul-le-mul-right}
 use mathlib.Core.Path.{_≡_, refl, sym, ap, _∙_}
-use mathlib.Core.List.{List, [], _∷_, _++_, append-assoc}
+use mathlib.Core.List.{List, [], _∷_, _++_, flatMap, append-assoc, append-nil}
 use lib.ListN.{length, getD, set, take, drop, length-append, length-drop}
 use lib.Seq.{paste-zero, drop-cons, append-snoc, set-at, take-at, drop-at, drop-drop, length-take-le, take-suc, set-split}
 use native.Mathlib.Numerals.{add-one}
@@ -108,3 +110,23 @@ joined {j} {k} {at} {m} {n} {a} {b} {c} {t} {u} v w h =
 -- and needs no more room than more
 pub loosened : {j k at n : ℕ} {a b t : List ℕ} → j ≤ k → Written j a b at n t → Written k a b at n t
 loosened h w = record { is = w .is; end = w .end; short = omega (arith, w .short) }
+
+-- ---- texts of entries, one behind the other, each of at most `width` bytes
+
+module _ {A : Type 0} (text : A → List ℕ) where
+  texts-more : (xs : List A) (x : A) → flatMap text (xs ++ (x ∷ [])) ≡ flatMap text xs ++ text x
+  unfolding flatMap
+  texts-more [] x = append-nil (text x)
+  texts-more (y ∷ xs) x =
+      ap (λ (t : List ℕ). text y ++ t) (texts-more xs x) ∙ sym (append-assoc (text y) (flatMap text xs) (text x))
+
+  -- the text of one more
+  pub text-more : (width i : ℕ) (xs : List A) (x : A) {a b c : List ℕ} {from at next : ℕ}
+      → Written (i * width) a b from at (flatMap text xs) → Written width b c at next (text x) → from + i * width ≤ length a
+      → Written (suc i * width) a c from next (flatMap text (xs ++ (x ∷ [])))
+  text-more width i xs x v w room = rw (suc-mul i width, texts-more xs x) (joined v w room)
+
+-- and it has room where there is room for all
+pub text-fits : (width : ℕ) {i from at count m : ℕ} {a b t : List ℕ} → Written (i * width) a b from at t → i < count
+    → from + count * width ≤ length a → m ≡ length a → at + width ≤ m
+text-fits width {i} w less room same = omega (arith, w .end, w .short, mul-le-mul-right width less, suc-mul i width)

@@ -3,7 +3,7 @@
 use Prim.Native.Nat.{ℕ, zero, suc, _+_, _<_, _≤_}
 use mathlib.Core.Path.{_≡_, refl, sym, ap, ap₂, _∙_}
 use mathlib.Core.Bool.{false}
-use mathlib.Core.List.{List, [], _∷_, _++_, append-nil, append-assoc}
+use mathlib.Core.List.{List, [], _∷_, _++_, flatMap, append-nil, append-assoc}
 use mathlib.Core.Option.{Option, some}
 use lib.ListN.{length, take, drop, length-replicate, length-append}
 use lib.Dec.{leb, eqb}
@@ -39,7 +39,7 @@ text-append [] ys = refl
 text-append (x ∷ xs) ys = ap (λ (t : List ℕ). lineText x ++ t) (text-append xs ys) ∙ sym (append-assoc (lineText x) (textOf xs) (textOf ys))
 
 text-records : (rs : List Record) → textOf (writtenAll rs) ≡ recordLines rs
-unfolding textOf writtenAll recordLines lineText
+unfolding textOf writtenAll flatMap lineText
 text-records [] = refl
 text-records (r ∷ rs) = ap (λ (t : List ℕ). lineText (OutputLine.written r) ++ t) (text-records rs)
 

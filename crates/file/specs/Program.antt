@@ -1,7 +1,7 @@
 -- What the program `settle` prints for a whole input: document 01's "File and program", over the rules' definitions.
 use Prim.Native.Nat.{ℕ, zero, suc, _+_}
 use mathlib.Core.Bool.{cond}
-use mathlib.Core.List.{List, [], _∷_, _++_}
+use mathlib.Core.List.{List, [], _∷_, _++_, flatMap}
 use lib.IntN.{ℤ, pos}
 use lib.ListN.{length, take, drop, replicate}
 use lib.Dec.{leb, eqb}
@@ -35,9 +35,9 @@ endedBy question = refusedLine 0 question
 
 -- ---- messages
 
-unfoldable pub recordLines : (records : List Record) → List ℕ
-recordLines [] = []
-recordLines (r ∷ rs) = recordLine r ++ recordLines rs
+-- the lines of some records, one behind the other
+abbrev pub recordLines : (records : List Record) → List ℕ
+recordLines rs = flatMap recordLine rs
 
 -- "An accepted message prints only its records"; "`refused`: message number from 1, question."
 unfoldable pub answered : (world : World) → (message : Fields) → (number : ℕ) → List ℕ

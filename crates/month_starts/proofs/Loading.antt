@@ -3,7 +3,7 @@
 use Prim.Native.Nat.{ℕ, _+_, _-_, _*_, _/_, _%_}
 use mathlib.Core.Path.{_≡_, refl, ap, _∙_}
 use mathlib.Core.Bool.{cond}
-use mathlib.Core.List.{List, [], _∷_, _++_, append-assoc}
+use mathlib.Core.List.{List, [], _∷_, _++_, flatMap, append-assoc}
 use lib.Dec.{eqb}
 use native.Mathlib.Omega.{arith}
 use borrow.Author.Tests.{ne-eqb}
@@ -36,7 +36,7 @@ number-read = by-digits {P = λ m. (cs : List ℕ) → loaded (decimal m ++ cs) 
     (p (digit (m % 10) ∷ cs) ∙ digit-read (m / 10) (m % 10) cs ∙ ap (λ (k : ℕ). loadedBehind k cs) e))
 
 pub lines-loaded : (ns : List ℕ) → loaded (numberLines ns) ≡ ns
-unfolding numberLines loadedBehind
+unfolding flatMap loadedBehind
 lines-loaded [] = refl
 lines-loaded (n ∷ ns) =
     rw (append-assoc (decimal n) (newline ∷ []) (numberLines ns))

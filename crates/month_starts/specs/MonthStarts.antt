@@ -1,7 +1,7 @@
 -- The month starts that the program prints, and the text of numbers, one a line.
 use Prim.Native.Nat.{ℕ}
 use mathlib.Core.Bool.{Bool, cond}
-use mathlib.Core.List.{List, [], _∷_, _++_}
+use mathlib.Core.List.{List, flatMap}
 use Rattle.calendar.specs.Gregorian.{firstOf, listedMonths}
 use Rattle.rules.specs.Basics.{listTo}
 use Rattle.file.specs.Lines.{numberThen, newline}
@@ -10,10 +10,12 @@ use Rattle.file.specs.Lines.{numberThen, newline}
 abbrev pub monthStarts : List ℕ
 monthStarts = listTo firstOf listedMonths
 
--- "one number a line"
-unfoldable pub numberLines : List ℕ → List ℕ
-numberLines [] = []
-numberLines (n ∷ ns) = numberThen n newline ++ numberLines ns
+-- "one number a line": the lines of some numbers, one behind the other
+abbrev pub numberLine : (n : ℕ) → List ℕ
+numberLine n = numberThen n newline
+
+abbrev pub numberLines : (numbers : List ℕ) → List ℕ
+numberLines ns = flatMap numberLine ns
 
 -- what the program prints
 abbrev pub monthText : List ℕ

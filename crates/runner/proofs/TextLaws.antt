@@ -3,7 +3,7 @@ use Prim.Native.Nat.{ℕ, _+_, _*_, _≤_, _<_}
 use native.Mathlib.Numerals.{add-one}
 use native.Mathlib.Omega.{arith}
 use mathlib.Core.Path.{_≡_, sym, ap, ap₂, subst, _∙_}
-use mathlib.Core.List.{List, [], _∷_, _++_, append-assoc, append-nil}
+use mathlib.Core.List.{List, [], _∷_, _++_, flatMap}
 use lib.IntN.{ℤ}
 use lib.ListN.{length, getD, List·getD-append}
 use borrow.Author.Tests.{ne-eqb}
@@ -27,21 +27,15 @@ use Rattle.settlement.specs.Replies.{roomIn, Replied}
 use Rattle.file.specs.declared.fields.Phase.{Phase}
 use Rattle.file.specs.Lines.{bookLine, recordLine, refusedLine, longestLine, Written}
 use Rattle.file.specs.Program.{settleRecords, recordLines, answered}
-use Rattle.file.proofs.PlacedLaws.{nothing-written, joined, loosened}
+use Rattle.file.proofs.PlacedLaws.{nothing-written, loosened, text-more}
 use Rattle.runner.specs.declared.Advanced.{Advanced}
 use Rattle.runner.specs.Texts.{longestText, advancedTo, openedOver, openingText, replyText}
 
 -- ---- the lines of the first records
 
-lines-more : (rs : List Record) (r : Record) → recordLines (rs ++ (r ∷ [])) ≡ recordLines rs ++ recordLine r
-unfolding recordLines
-lines-more [] r = append-nil (recordLine r)
-lines-more (x ∷ rs) r =
-    ap (λ (t : List ℕ). recordLine x ++ t) (lines-more rs r) ∙ sym (append-assoc (recordLine x) (recordLines rs) (recordLine r))
-
 module _ (numbers : List ℤ) where
   pub no-lines : (out : List ℕ) (from : ℕ) → Written (0 * longestLine) out out from from (recordLines (listTo (recordAt numbers) 0))
-  unfolding recordLines listTo
+  unfolding flatMap listTo
   no-lines out from = nothing-written 0 out from
 
   pub line-more : (i : ℕ) (a b c : List ℕ) (from at next : ℕ)
@@ -50,18 +44,13 @@ module _ (numbers : List ℤ) where
       → Written ((i + 1) * longestLine) a c from next (recordLines (listTo (recordAt numbers) (i + 1)))
   unfolding listTo
   line-more i a b c from at next v r e w room =
-      rw (add-one i, lines-more (listTo (recordAt numbers) i) (recordAt numbers i)) (loosened (omega arith) (joined v (rw e at w) room))
+      rw (add-one i) (text-more recordLine longestLine i (listTo (recordAt numbers) i) (recordAt numbers i) v (rw e at w) room)
 
 -- an entry of a list that begins with them
 pub listed-at : (f : ℕ → Record) (count i : ℕ) (rest list : List Record) (other : Record) → i < count → list ≡ listTo f count ++ rest
     → getD list i other ≡ f i
 listed-at f count i rest list other less e =
     rw (e, List·getD-append (listTo f count) rest other i (rw (length-listTo f count) less)) (getD-listTo f count i other less)
-
--- a line behind them has room
-pub line-fits : {i from at : ℕ} {a b text : List ℕ} → Written (i * longestLine) a b from at text → (count m : ℕ) → i < count
-    → from + count * longestLine ≤ length a → m ≡ length a → at + longestLine ≤ m
-line-fits w count m less room same = omega (arith, w .end, w .short)
 
 -- ---- the records of a message
 
@@ -101,7 +90,7 @@ module _ (r : Reply) (message : ℕ) (numbers : List ℤ) where
   -- a message without records prints nothing
   pub nothing-put : numberOf (r .answer) ≡ 0 → r .records ≡ 0 → (out : List ℕ) (from : ℕ)
       → Written longestText out out from from (replyText r message numbers)
-  unfolding replyText recordLines listTo
+  unfolding replyText flatMap listTo
   nothing-put z none out from = rw (z, none) (nothing-written longestText out from)
 
   pub refused-put : (question : ℕ) → question ≡ numberOf (r .answer) → question ≢ 0 → {from next : ℕ} {a b : List ℕ}

@@ -6,9 +6,9 @@ use lib.Seq.{take-all}
 use native.Mathlib.Omega.{arith}
 use borrow.Author.Needs.{needs}
 use Rattle.file.specs.Lines.{numberWidth, Written}
-use Rattle.file.proofs.PlacedLaws.{written-long}
+use Rattle.file.proofs.PlacedLaws.{written-long, text-fits}
 use Rattle.month_starts.specs.MonthStarts.{numberLines}
-use Rattle.month_starts.proofs.LineLaws.{no-lines, line-more, line-fits}
+use Rattle.month_starts.proofs.LineLaws.{no-lines, line-more}
 use Rattle.month_starts.proofs.put_lines.Statement.{statement}
 use Rattle.month_starts.proofs.put_lines.Tie as tie
 
@@ -41,7 +41,8 @@ shared-slice-read-put-number-then c = search needs
 put-number-then-requires : tie.Need-put-number-then-requires Inv-loop μ-loop
 put-number-then-requires c κs =
     let turn : tie.In-loop Inv-loop μ-loop = search in
-    line-fits (turn .before .loop .inv .1) (turn .loop-test .taken) (start-of turn .pre) (long turn)
+    let r = start-of turn .pre in
+    text-fits numberWidth (turn .before .loop .inv .1) (turn .loop-test .taken) (omega arith) (long turn)
 
 add-i : tie.Need-add-i Inv-loop μ-loop
 add-i c = search needs

@@ -6,8 +6,8 @@ use Rattle.rules.specs.Basics.{listTo}
 use Rattle.ledger.specs.RecordNumbers.{recordAt}
 use Rattle.file.specs.Lines.{longestLine, Written}
 use Rattle.file.specs.Program.{recordLines}
-use Rattle.file.proofs.PlacedLaws.{written-long}
-use Rattle.runner.proofs.TextLaws.{no-lines, line-more, line-fits, listed-at}
+use Rattle.file.proofs.PlacedLaws.{written-long, text-fits}
+use Rattle.runner.proofs.TextLaws.{no-lines, line-more, listed-at}
 use native.Mathlib.Omega.{arith}
 use borrow.Author.Needs.{needs}
 use Rattle.runner.proofs.texts.put_records.Statement.{statement}
@@ -57,7 +57,7 @@ put-record-requires : tie.Need-put-record-requires Inv-loop μ-loop
 put-record-requires c κs =
     let turn : tie.In-loop Inv-loop μ-loop = search in
     let start = start-of turn in
-    line-fits (turn .before .loop .inv .1) (start .args .count) _ (turn .loop-test .taken) (start .pre .1) (long turn)
+    text-fits longestLine (turn .before .loop .inv .1) (turn .loop-test .taken) (start .pre .1) (long turn)
 
 add-i : tie.Need-add-i Inv-loop μ-loop
 add-i c =
