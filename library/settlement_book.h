@@ -173,7 +173,8 @@ uint64_t settlement_book_line(
     int64_t *line, size_t line_length);
 
 /* Everything recorded for a point and an element, by first day. Answers 0, 2 to 5, 7 or 8.
- * At 0 the periods are links[*place] to links[*place + *count - 1]. */
+ * At 0 the periods are links[*place] to links[*place + *count - 1], and *read is how many periods were read to find them: those up to
+ * the first beyond the point and element, and that one, or all in use where none is beyond. At any other answer *read is 0. */
 uint64_t settlement_book_periods(
     const uint64_t *book, size_t book_length,
     const uint8_t *element_data, size_t element_data_length,
@@ -188,7 +189,8 @@ uint64_t settlement_book_periods(
     uint64_t point,
     uint64_t element,
     uint64_t *place,
-    uint64_t *count);
+    uint64_t *count,
+    uint64_t *read);
 
 /* The earliest day of the month on which the point counts but for a missing holder and has a link. Answers 0, 2 to 5 or 7.
  * At 0 *day is that day, or SETTLEMENT_BOOK_NO_DAY where there is none. */
@@ -241,7 +243,8 @@ uint64_t settlement_book_periods_within(
     uint64_t point,
     uint64_t element,
     uint64_t *place,
-    uint64_t *count);
+    uint64_t *count,
+    uint64_t *read);
 
 uint64_t settlement_book_day_without_holder_within(
     const uint64_t *book, size_t book_length,

@@ -68,7 +68,10 @@ exported! { mut:
 
 exported! { const:
     settlement_book_line(supplier: u64, element: u64, line: *mut i64, line_length: usize);
-    settlement_book_periods(point: u64, element: u64, place: *mut u64, count: *mut u64);
+    settlement_book_periods(
+        point: u64, element: u64,
+        place: *mut u64, count: *mut u64, read: *mut u64
+    );
     settlement_book_day_without_holder(point: u64, day: *mut u64);
 }
 
@@ -76,24 +79,37 @@ exported! { const:
 unsafe extern "C" {
     #[rustfmt::skip]
     fn settlement_book_line_within(
-        book: *const u64, book_length: usize,
-        lines: *const i64, lines_length: usize,
-        supplier: u64, element: u64,
-        line: *mut i64, line_length: usize,
+        book: *const u64,
+        book_length: usize,
+        lines: *const i64,
+        lines_length: usize,
+        supplier: u64,
+        element: u64,
+        line: *mut i64,
+        line_length: usize,
     ) -> u64;
     #[rustfmt::skip]
     fn settlement_book_periods_within(
-        book: *const u64, book_length: usize,
-        links: *const u64, links_length: usize,
-        point: u64, element: u64,
-        place: *mut u64, count: *mut u64,
+        book: *const u64,
+        book_length: usize,
+        links: *const u64,
+        links_length: usize,
+        point: u64,
+        element: u64,
+        place: *mut u64,
+        count: *mut u64,
+        read: *mut u64,
     ) -> u64;
     #[rustfmt::skip]
     fn settlement_book_day_without_holder_within(
-        book: *const u64, book_length: usize,
-        links: *const u64, links_length: usize,
-        holders: *const u64, holders_length: usize,
-        states: *const u64, states_length: usize,
+        book: *const u64,
+        book_length: usize,
+        links: *const u64,
+        links_length: usize,
+        holders: *const u64,
+        holders_length: usize,
+        states: *const u64,
+        states_length: usize,
         point: u64,
         day: *mut u64,
     ) -> u64;
@@ -290,13 +306,16 @@ impl Book {
     }
 
     /// Everything recorded for a point and an element, by first day, or question 7 or
-    /// 8: that part of the link table, not a copy.
+    /// 8: that part of the link table, not a copy. `read` is how many periods the search
+    /// read: those up to the first beyond the point and element, and that one; 0 where
+    /// the query is refused.
     #[inline]
-    pub fn periods(
-        &self,
+    pub fn periods<'a>(
+        &'a self,
         point: u64,
         element: u64,
-    ) -> Result<impl ExactSizeIterator<Item = Period> + '_, Question> {
+        read: &mut u64,
+    ) -> Result<impl ExactSizeIterator<Item = Period> + use<'a>, Question> {
         let (mut place, mut count) = (0, 0);
         // Safety: a book's numbers, and the book is well formed.
         let answer = unsafe {
@@ -309,23 +328,25 @@ impl Book {
                 element,
                 &mut place,
                 &mut count,
+                read,
             )
         };
         Question::none_of(answer).map(|()| self.periods_at(place, count))
     }
 
     /// The same through the exported function that asks questions 2 to 5 first.
-    pub fn periods_checked(
-        &self,
+    pub fn periods_checked<'a>(
+        &'a self,
         point: u64,
         element: u64,
-    ) -> Result<impl ExactSizeIterator<Item = Period> + '_, Question> {
+        read: &mut u64,
+    ) -> Result<impl ExactSizeIterator<Item = Period> + use<'a>, Question> {
         let (mut place, mut count) = (0, 0);
         // Safety: the function takes anything; each slice is a list with its length.
         let answer = unsafe {
             read_with!(
                 self,
-                settlement_book_periods(point, element, &mut place, &mut count)
+                settlement_book_periods(point, element, &mut place, &mut count, read)
             )
         };
         Question::none_of(answer).map(|()| self.periods_at(place, count))
@@ -410,22 +431,70 @@ fn line_of([quantity, kroner, billionths]: [i64; LINE_SIZE]) -> Line {
 mod tests {
     use super::*;
 
-    fn book() -> Book {
+    fn book_of(points: u64, elements: u64) -> Book {
         let month = Month {
             year: 2024,
             month: 3,
         };
         let counts = Counts {
-            points: 1,
+            points,
             suppliers: 2,
-            elements: 1,
+            elements,
         };
+        // Fees, so that each link is a period of one day.
         let element = Element {
-            kind: 1,
+            kind: 2,
             owner: 1,
             marks: 0,
         };
-        Book::open(month, counts, &[element], &[0; 24]).unwrap()
+        let (data, prices) = (vec![element; elements as usize], zeros(elements * 24));
+        let mut book = Book::open(month, counts, &data, &prices).unwrap();
+        for point in 0..points {
+            let connected = Fields::from([5, 1, 0, 8826, point, 0, 8826, 0, 2]);
+            assert_eq!(book.message(&connected), Ok(&[][..]));
+        }
+        book
+    }
+
+    fn book() -> Book {
+        book_of(1, 1)
+    }
+
+    fn link(point: u64, element: u64, day: u64) -> Fields {
+        Fields::from([1, 1, 0, 8826, point, element, day, 0, 1])
+    }
+
+    /// The query for periods of any book: the answer, and the place, count and number of
+    /// periods read, which were 6, 7 and 8.
+    fn periods_lent(book: &Book, point: u64, element: u64) -> (u64, u64, u64, u64) {
+        let (mut place, mut count, mut read) = (6, 7, 8);
+        let answer = unsafe {
+            read_with!(
+                book,
+                settlement_book_periods(point, element, &mut place, &mut count, &mut read)
+            )
+        };
+        (answer, place, count, read)
+    }
+
+    /// The same without questions 2 to 5. The caller sees to it that the numbers are an
+    /// opened book's: the search reads that many rows at most, and asks no order of them.
+    fn searched(book: &Book, point: u64, element: u64) -> (u64, u64, u64, u64) {
+        let (mut place, mut count, mut read) = (6, 7, 8);
+        let answer = unsafe {
+            settlement_book_periods_within(
+                book.numbers.as_ptr(),
+                book.numbers.len(),
+                book.links.as_ptr(),
+                book.links.len(),
+                point,
+                element,
+                &mut place,
+                &mut count,
+                &mut read,
+            )
+        };
+        (answer, place, count, read)
     }
 
     /// The functions for any book ask nothing of their callers: another length is
@@ -451,13 +520,11 @@ mod tests {
         assert_eq!((answer, *line), (3, [5; 2]));
 
         book.links = zeros(PLACES - 1);
-        let (mut place, mut count) = (6, 7);
-        let answer =
-            unsafe { read_with!(book, settlement_book_periods(0, 0, &mut place, &mut count)) };
-        assert_eq!((answer, place, count), (3, 6, 7));
+        assert_eq!(periods_lent(&book, 0, 0), (3, 6, 7, 0));
     }
 
-    /// A refused message and a refused query leave the lent numbers.
+    /// A refused message and a refused query leave the lent numbers, but that a refused
+    /// query for periods tells that it read none.
     #[test]
     fn a_refusal_leaves_the_lent_numbers() {
         let mut book = book();
@@ -472,10 +539,60 @@ mod tests {
             )
         };
         assert_eq!((answer, count), (7, 7));
+        // With a period in the table, one would have been read.
+        assert_eq!(book.message(&link(0, 0, 8826)), Ok(&[][..]));
+        assert_eq!(periods_lent(&book, 0, 0), (0, 0, 1, 1));
+        assert_eq!(periods_lent(&book, 1, 0), (7, 6, 7, 0));
+        assert_eq!(periods_lent(&book, 0, 1), (8, 6, 7, 0));
+        let mut read = 5;
+        assert_eq!(
+            book.periods(1, 0, &mut read).err(),
+            Some(Question::UnknownPoint)
+        );
+        assert_eq!(read, 0);
+        let slips: [(u64, fn(&mut Book)); 4] = [
+            (2, |book| book.numbers[0] = 1999),
+            (3, |book| book.blocks = zeros(2)),
+            (4, |book| book.element_data[0] = 4),
+            (5, |book| book.links[1] = 1),
+        ];
+        for (question, slip) in slips {
+            let mut wrong = book.clone();
+            slip(&mut wrong);
+            assert_eq!(periods_lent(&wrong, 0, 0), (question, 6, 7, 0));
+        }
+    }
 
-        let mut place = 6;
-        let answer =
-            unsafe { read_with!(book, settlement_book_periods(0, 1, &mut place, &mut count)) };
-        assert_eq!((answer, place, count), (8, 6, 7));
+    /// The search by itself: what stands behind the first period beyond the point and
+    /// element changes neither the part nor how many periods were read, in order or not.
+    #[test]
+    fn the_search_does_not_look_behind_its_end() {
+        let mut book = book_of(3, 3);
+        for (point, element) in [(0, 0), (0, 2), (1, 1), (1, 2), (2, 0), (2, 1), (2, 2)] {
+            for day in [8826, 8840] {
+                assert_eq!(book.message(&link(point, element, day)), Ok(&[][..]));
+            }
+        }
+        let rows = book.numbers[5] as usize;
+        assert_eq!(rows, 14);
+        for (point, element) in (0..3).flat_map(|point| (0..3).map(move |e| (point, e))) {
+            let found = searched(&book, point, element);
+            let (_, place, count, read) = found;
+            assert_eq!(read, 14.min(place + count + 1));
+            let behind = read as usize..rows;
+            let mut other = book.clone();
+            other.links[behind.clone()].reverse();
+            assert_eq!(searched(&other, point, element), found);
+            other.links[behind.clone()].fill(0);
+            assert_eq!(searched(&other, point, element), found);
+            other.links[behind.clone()].fill(book.links[0]);
+            assert_eq!(searched(&other, point, element), found);
+            other.links[behind.clone()].fill(u64::MAX);
+            assert_eq!(searched(&other, point, element), found);
+            // The query for any book refuses such a table, and reads none of it.
+            if !behind.is_empty() {
+                assert_eq!(periods_lent(&other, point, element), (5, 6, 7, 0));
+            }
+        }
     }
 }

@@ -1,5 +1,6 @@
 //! Document 01's listing through the library, what it refuses, the earliest day without
-//! a holder, and its two forms of each call against each other.
+//! a holder, how many periods the query for them reads, and its two forms of each call
+//! against each other.
 
 use std::collections::BTreeMap;
 
@@ -103,6 +104,17 @@ fn the_listing_gives_its_records() {
     assert_eq!(book.line_checked(2, 1), Ok(line));
 }
 
+/// What the query for periods answers, and how many periods it says that it read. Both
+/// forms of the call say the same.
+fn periods(book: &Book, point: u64, element: u64) -> (Result<Vec<Period>, Question>, u64) {
+    let (mut read, mut read_checked) = (9, 10);
+    let found = book.periods(point, element, &mut read);
+    let checked = book.periods_checked(point, element, &mut read_checked);
+    let (found, checked) = (found.map(Iterator::collect), checked.map(Iterator::collect));
+    assert_eq!((&found, read), (&checked, read_checked));
+    (found, read)
+}
+
 #[test]
 fn queries_answer_or_name_the_question() {
     let mut book = listing();
@@ -115,9 +127,9 @@ fn queries_answer_or_name_the_question() {
         quantity: 2,
     };
     assert_eq!(
-        book.periods(0, 0).unwrap().collect::<Vec<_>>(),
-        [whole],
-        "one period, which nothing ends"
+        periods(&book, 0, 0),
+        (Ok(vec![whole]), 2),
+        "one period, which nothing ends, and the one behind it"
     );
     assert_eq!(book.message(&told(3, 1, 0, 8830, 0, 5)), Ok(&[][..]));
     let split = [
@@ -131,14 +143,14 @@ fn queries_answer_or_name_the_question() {
             ..whole
         },
     ];
-    assert_eq!(book.periods(0, 0).unwrap().collect::<Vec<_>>(), split);
+    assert_eq!(periods(&book, 0, 0), (Ok(split.to_vec()), 3));
     let behind = Period {
         quantity: 1,
         ..whole
     };
-    assert_eq!(book.periods(0, 1).unwrap().collect::<Vec<_>>(), [behind]);
-    assert_eq!(book.periods(1, 0).err(), Some(Question::UnknownPoint));
-    assert_eq!(book.periods(0, 2).err(), Some(Question::UnknownElement));
+    assert_eq!(periods(&book, 0, 1), (Ok(vec![behind]), 3));
+    assert_eq!(periods(&book, 1, 0), (Err(Question::UnknownPoint), 0));
+    assert_eq!(periods(&book, 0, 2), (Err(Question::UnknownElement), 0));
     assert_eq!(book.day_without_holder(0), Ok(None));
     assert_eq!(book.message(&told(4, 2, 0, 8850, 0, 0)), Ok(&[][..]));
     assert_eq!(book.day_without_holder(0), Ok(Some(8850)));
@@ -430,9 +442,7 @@ fn both_forms_of_each_call_agree() {
         assert_eq!(book.line(one, two), checked.line_checked(one, two));
         let day = book.day_without_holder(one);
         assert_eq!(day, checked.day_without_holder_checked(one));
-        let periods = book.periods(one, two).map(Iterator::collect::<Vec<_>>);
-        let other = checked.periods_checked(one, two).map(Iterator::collect);
-        assert_eq!(periods, other);
+        assert_eq!(periods(&book, one, two), periods(&checked, one, two));
     }
     assert!(accepted > 5_000, "{accepted} accepted");
 }
@@ -515,4 +525,148 @@ fn the_earliest_day_is_that_of_the_messages_heard() {
     // Each day of the month is named often enough to have been tried.
     let times = |day| named.get(&Some(day)).copied().unwrap_or(0);
     assert!((FIRST..=LAST).all(|day| times(day) > 100), "{named:?}");
+}
+
+/// A book of subscriptions on connected points, with these links, the last first: the
+/// one before ends where the next begins.
+fn linked(points: u64, elements: u64, links: &[(u64, u64, u64)]) -> Book {
+    let each = element(1, 1, 0);
+    let prices = vec![0; elements as usize * 24];
+    let data = vec![each; elements as usize];
+    let mut book = Book::open(MARCH, counts(points, 1, elements), &data, &prices).unwrap();
+    for point in 0..points {
+        let message = Fields {
+            point,
+            ..state(FIRST, CONNECTED)
+        };
+        assert_eq!(book.message(&message), Ok(&[][..]), "{message:?}");
+    }
+    for (point, element, day) in links.iter().rev() {
+        let message = Fields {
+            point: *point,
+            ..link(*element, *day)
+        };
+        assert_eq!(book.message(&message), Ok(&[][..]), "{message:?}");
+    }
+    book
+}
+
+/// How many periods the query reads for each pair of a book, and how many it gives.
+fn reads(book: &Book) -> Vec<(u64, u64)> {
+    let Counts {
+        points, elements, ..
+    } = book.counts();
+    let pairs = (0..points).flat_map(|point| (0..elements).map(move |element| (point, element)));
+    let counted = pairs.map(|(point, element)| {
+        let (found, read) = periods(book, point, element);
+        (read, found.unwrap().len() as u64)
+    });
+    counted.collect()
+}
+
+#[test]
+fn the_search_ends_at_the_first_period_beyond() {
+    // An empty table: nothing is read.
+    assert_eq!(reads(&linked(2, 2, &[])), [(0, 0); 4]);
+    // One period alone is beyond the pairs before it, and none is beyond it.
+    let one = linked(2, 2, &[(1, 0, FIRST)]);
+    assert_eq!(reads(&one), [(1, 0), (1, 0), (1, 1), (1, 0)]);
+    let links = [
+        (0, 1, FIRST),
+        (0, 1, FIRST + 1),
+        (1, 0, FIRST),
+        (1, 2, FIRST),
+        (1, 2, FIRST + 2),
+        (1, 2, FIRST + 5),
+        (2, 0, FIRST),
+    ];
+    let expected = [
+        // No period, and the first of the table is beyond; the first pair that has some;
+        // none between two pairs that have some.
+        (1, 0),
+        (3, 2),
+        (3, 0),
+        (4, 1),
+        (4, 0),
+        (7, 3),
+        // The last pair that has some, and pairs behind it: none is beyond.
+        (7, 1),
+        (7, 0),
+        (7, 0),
+    ];
+    let mut book = linked(3, 3, &links);
+    assert_eq!(reads(&book), expected);
+    // A stop takes two periods away, and what is behind them stands two places sooner.
+    let stop = Fields {
+        point: 1,
+        ..told(2, 1, 2, FIRST + 1, 0, 0)
+    };
+    assert_eq!(book.message(&stop), Ok(&[][..]));
+    let sooner = [(5, 1), (5, 1), (5, 0), (5, 0)];
+    assert_eq!(reads(&book), [&expected[..5], &sooner].concat());
+}
+
+#[test]
+fn a_full_table_is_read_to_its_end_for_the_last_pair_alone() {
+    let days = [FIRST, FIRST + 7, FIRST + 14, FIRST + 21];
+    // Points 0 to 255 have four periods each, of element 1.
+    let each = |point| days.map(move |day| (point, 1, day));
+    let links = (0..256).flat_map(each).collect::<Vec<_>>();
+    assert_eq!(links.len(), 1024);
+    let book = linked(256, 3, &links);
+    let rows_to = |point: u64| 4 * (point + 1);
+    for point in 0..256 {
+        let before = rows_to(point) - 4;
+        let found = (0..3).map(|element| {
+            let (found, read) = periods(&book, point, element);
+            (read, found.unwrap().len())
+        });
+        let behind = rows_to(point) + u64::from(point < 255);
+        let expected = [(before + 1, 0), (behind, 4), (behind, 0)];
+        assert_eq!(found.collect::<Vec<_>>(), expected, "point {point}");
+    }
+    assert_eq!(periods(&book, 255, 1).1, 1024);
+    // There is no place for a further period.
+    let mut book = book;
+    let further = told(1, 1, 0, FIRST, 0, 1);
+    assert_eq!(book.message(&further), Err(Question::TableFull));
+}
+
+#[test]
+fn the_periods_read_are_those_of_the_messages_heard() {
+    let elements = [
+        element(1, 1, 0),
+        element(2, 1, 0),
+        element(3, 1, 0),
+        element(1, 1, 1),
+    ];
+    let prices = prices(&[21_000_000, 150_000_000, -30_000, 761_000]);
+    let mut random = Random(13);
+    let mut told = BTreeMap::new();
+    for _ in 0..100 {
+        let mut book = Book::open(MARCH, counts(4, 3, 4), &elements, &prices).unwrap();
+        let mut heard = vec![Heard::default(); 4];
+        for _ in 0..200 {
+            let message = random.message();
+            if book.message(&message).is_ok() {
+                heard[message.point as usize].hear(&message);
+            }
+            let all = heard.iter().flat_map(|heard| &heard.periods);
+            let lengths = all.map(|periods| periods.len() as u64).collect::<Vec<_>>();
+            for place in 0..16 {
+                let (point, element) = (place / 4, place % 4);
+                let (found, read) = periods(&book, point as u64, element as u64);
+                let days = found.unwrap().into_iter().map(|p| (p.first, p.past));
+                let expected = heard[point].periods[element].clone();
+                assert!(days.eq(expected));
+                let up_to = lengths[..=place].iter().sum::<u64>();
+                let beyond = lengths[place + 1..].iter().any(|count| *count > 0);
+                assert_eq!(read, up_to + u64::from(beyond));
+                *told.entry((read, beyond)).or_insert(0) += 1;
+            }
+        }
+    }
+    // Searches that end at a period beyond and searches that find none, of many lengths.
+    assert!((1..=10).all(|read| told[&(read, true)] > 1000), "{told:?}");
+    assert!((1..=10).all(|read| told[&(read, false)] > 100), "{told:?}");
 }

@@ -6,6 +6,7 @@ use mathlib.Core.Logic.{_≢_}
 use mathlib.Core.Bool.{true}
 use mathlib.Core.List.{[]}
 use lib.ListN.{length, take}
+use lib.Seq.{length-take-le}
 use lib.Dec.{eqb}
 use borrow.Author.Tests.{eq-eqb, ne-eqb}
 use native.Mathlib.Nat.{mul-le-mul}
@@ -19,7 +20,7 @@ use Rattle.rules.specs.Lines.{Measure}
 use Rattle.rules.specs.Rows.{pairRows}
 use Rattle.rules.specs.World.{World, rowsOf, lineAt, lineCount, storedAt, stored}
 use Rattle.rules.specs.WellFormed.{lineRight, linesRight, linePlaces}
-use Rattle.rules.specs.Queries.{lineNumber, lineQuery, lineNamed, periodsNumber, periodsQuery}
+use Rattle.rules.specs.Queries.{lineNumber, lineQuery, lineNamed, periodsNumber, periodsQuery, periodsRead}
 use Rattle.rules.specs.Answers.{numberOf, lineResult}
 use Rattle.rules.proofs.Ranges.{all-at}
 use Rattle.rules.proofs.Stored.{line-below}
@@ -29,9 +30,12 @@ use Rattle.ledger.specs.Bounds.{LineOf}
 use Rattle.rules.proofs.Parts.{lengths, formed}
 use Rattle.rules.specs.Lent.{Lists, worldIn}
 use Rattle.tables.specs.Order.{LinkRows, PairFits}
-use Rattle.tables.specs.RowRange.{PairAt}
+use Rattle.tables.proofs.Order.{run-rising}
+use Rattle.tables.proofs.Parts.{part-within}
 use Rattle.tables.proofs.Right.{whole-rows}
 use Rattle.queries.specs.Promises.{isLine, LineAnswered, PeriodsAt}
+use Rattle.queries.specs.PairSearch.{PairFound}
+use Rattle.queries.proofs.PairSearch.{place-sorted, part-sorted}
 use Rattle.queries.proofs.Asks.{line-passed, periods-passed}
 
 -- every product fits
@@ -101,19 +105,26 @@ pair-asked b o p e h =
     let j = k .1 .1 in
     (whole-rows b o (k .0) .links, record { point = omega arith; element = omega arith })
 
-module _ (w : World) (p e : ℕ) where
-  pub periods-answered : periodsNumber w p e ≡ 0
-      → pairRows p e (take (w .position .tables .links .used) (w .position .tables .links .words)) ≡ periodsQuery w p e
-  unfolding periodsQuery rowsOf
-  periods-answered h = rw h
+-- what it finds among the rows in use is the query's answer: they are in order
+pub periods-at : (b : Book) (o : Lists) (p e place count told : ℕ) → periodsNumber (worldIn b o) p e ≡ 0
+    → PairFound p e (take (b .periods) (o .links)) place count told → PeriodsAt (worldIn b o) p e place count told
+unfolding periodsQuery periodsRead rowsOf
+periods-at b o p e place count told h f =
+    let k = pair-asked b o p e h in
+    let rows = run-rising (k .0 .run) in
+    let part = part-sorted p e (k .1 .element) rows in
+    let n = length-take-le (b .periods) (o .links) (k .0 .fits) in
+    let h′ = f .within in
+    let i : place + count ≤ b .periods = omega arith in
+    let c : place + count - place ≡ count = omega arith in
+    record {
+      from = f .from ∙ place-sorted p e (k .1 .element) rows;
+      many = rw h (f .many ∙ ap length part);
+      rows = rw h ((rw c at (part-within place (place + count) (b .periods) (o .links) i)) ∙ f .part ∙ part);
+      within = i;
+      read = rw h (f .read);
+    }
 
-  pub periods-at : (place count : ℕ) → periodsNumber w p e ≡ 0
-      → PairAt p e (w .position .tables .links .words) (w .position .tables .links .used) place count → PeriodsAt w p e place count
-  unfolding rowsOf
-  periods-at place count h k =
-      let q = periods-answered h in
-      record { from = k .from; many = k .many ∙ ap length q; rows = k .rows ∙ q }
-
-  pub periods-refused : periodsNumber w p e ≢ 0 → [] ≡ periodsQuery w p e
-  unfolding periodsQuery
-  periods-refused h = rw (ne-eqb _ _ h)
+pub periods-refused : (w : World) (p e : ℕ) → periodsNumber w p e ≢ 0 → ([] ≡ periodsQuery w p e) × (0 ≡ periodsRead w p e)
+unfolding periodsQuery periodsRead
+periods-refused w p e h = (rw (ne-eqb _ _ h), rw (ne-eqb _ _ h))

@@ -1,6 +1,6 @@
 -- What the queries for lines and periods promise, each as one record of equations with the rules' definitions. The query for a day promises
 -- one equation, with `dayQuery`.
-use Prim.Native.Nat.{ℕ}
+use Prim.Native.Nat.{ℕ, _+_, _≤_}
 use mathlib.Core.Path.{_≡_}
 use mathlib.Core.Bool.{Bool, true, false}
 use mathlib.Core.List.{List}
@@ -9,11 +9,11 @@ use lib.ListN.{length, take, drop}
 use Rattle.rules.specs.declared.LineAnswer.{LineAnswer}
 use Rattle.rules.specs.World.{World, rowsOf, InBook}
 use Rattle.rules.specs.Opening.{openingAnswer}
-use Rattle.rules.specs.Queries.{lineNumber, lineQuery, lineGiven, ownLine, periodsQuery}
+use Rattle.rules.specs.Queries.{lineNumber, lineQuery, lineGiven, ownLine, periodsQuery, periodsRead}
 use Rattle.rules.specs.Answers.{lineResult}
 use Rattle.rules.specs.Fresh.{freshFacts}
 use Rattle.rules.specs.Claim.{Event, reached}
-use Rattle.tables.specs.RowRange.{pairPlace}
+use Rattle.queries.specs.PairSearch.{pairPlace}
 
 -- is it a line, and no refusal
 abbrev pub isLine : LineAnswer → Bool
@@ -32,8 +32,10 @@ pub record LineAnswered (w : World) (supplier element : ℕ) (r : LineAnswer) : 
       → lineResult r ≡ lineGiven (w₀ .opening) (freshFacts (reached w₀ vs .fresh)) supplier element
 
 -- the part of the link table that holds a point and an element: behind the rows in use of earlier points and elements, as many rows as
--- there are
-pub record PeriodsAt (w : World) (point element : ℕ) (place count : ℕ) : Type 0 where
+-- there are; and how many rows were read to find it
+pub record PeriodsAt (w : World) (point element : ℕ) (place count told : ℕ) : Type 0 where
   pub from : place ≡ pairPlace point element (rowsOf (w .position .tables .links))
   pub many : count ≡ length (periodsQuery w point element)
   pub rows : take count (drop place (w .position .tables .links .words)) ≡ periodsQuery w point element
+  pub within : place + count ≤ w .position .tables .links .used
+  pub read : told ≡ periodsRead w point element

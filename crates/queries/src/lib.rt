@@ -9,13 +9,14 @@ ghost use Rattle.rules.specs.Basics.{within, anyTo};
 ghost use Rattle.rules.specs.Sizes.{endOfDays, lineSize, mostElements, mostPoints, mostSuppliers};
 ghost use Rattle.rules.specs.World.{linkedOn};
 ghost use Rattle.rules.specs.Effects.{ask};
-ghost use Rattle.rules.specs.Queries.{periodsNumber, periodsQuery, DayResult, lacksHolder, earliestWithoutHolder, dayQuery};
+ghost use Rattle.rules.specs.Queries.{periodsNumber, periodsQuery, periodsRead, DayResult, lacksHolder, earliestWithoutHolder, dayQuery};
 ghost use Rattle.rules.specs.Answers.{numberOf, dayResult};
 ghost use Rattle.rules.specs.Whole.{Whole};
-ghost use Rattle.rules.specs.Lent.{Lists, worldIn, openingIn, tablesIn, lendLinks, lendRows, lendLines, was};
-ghost use Rattle.tables.specs.Order.{LinkRows};
+ghost use Rattle.rules.specs.Lent.{Lists, worldIn, openingIn, tablesIn, lendLinks, lendRows, lendLines, was, left};
+ghost use Rattle.tables.specs.Order.{LinkRows, PairFits};
 ghost use Rattle.queries.specs.Promises.{LineAnswered, PeriodsAt};
 ghost use Rattle.queries.specs.Days.{PointAsked};
+ghost use Rattle.queries.specs.PairSearch.{PairFound};
 use facts::holder_on;
 use facts::is_counting;
 use facts::month_days;
@@ -28,9 +29,8 @@ use rules::Book;
 use rules::DayAnswer;
 use rules::LINE_SIZE;
 use rules::LineAnswer;
-use tables::Part;
-use tables::pair_part;
-use tables::pair_place;
+use tables::pack_period;
+use tables::pair_bound;
 use tables::quantity_on;
 use validation::questions::ask_element;
 use validation::questions::ask_point;
@@ -80,29 +80,82 @@ pub fn line(book: Book, lines: &[i64], supplier: u64, element: u64) -> LineAnswe
 
 // ---- the periods of a point and element
 
+// A part of the link table: the place of its first row, how many rows it has, and how many were read to find it.
+pub struct Part {
+    pub place: usize,
+    pub count: usize,
+    pub read: usize,
+}
+
+// The search for everything recorded for a point and an element. It reads the rows lent, in order or not, from the first on, each once, and
+// ends at the first beyond the point and element. Linear in the rows read.
+pub fn search_pair(rows: &[u64], point: u64, element: u64) -> Part
+    requires { ⌜ PairFits point element ⌝ }
+    ensures { λ r. ⌜ PairFound point element (was rows) (r .place) (r .count) (r .read) ⌝ }
+{
+    let first = pack_period(point, element, 0, 0, 0);
+    let bound = pair_bound(point, element);
+    let mut place = 0;
+    let mut read = 0;
+    while read < rows.len() {
+        let word = rows[read];
+        if bound <= word {
+            return Part {
+                place,
+                count: read - place,
+                read: read + 1,
+            };
+        }
+        if word < first {
+            place += 1;
+        }
+        read += 1;
+    }
+    Part {
+        place,
+        count: read - place,
+        read,
+    }
+}
+
 // Where everything recorded for a point and an element stands in the link table, for a query that has passed its questions: 2 to 5 of the
-// book, then 7 and 8. Logarithmic in the rows.
+// book, then 7 and 8. Linear in the rows up to the first beyond the point and element.
 pub fn periods_place(book: Book, links: &[u64], point: u64, element: u64) -> Part
     requires { ⌜ ((o : Lists) × periodsNumber (worldIn book (lendLinks (now links) o)) point element ≡ 0) ⌝ }
     ensures { λ r. ⌜ ((o : Lists) →
         let w = worldIn book (lendLinks (was links) o) in
-        periodsNumber w point element ≡ 0 → PeriodsAt w point element (r .place) (r .count)) ⌝ }
+        periodsNumber w point element ≡ 0 → PeriodsAt w point element (r .place) (r .count) (r .read)) ⌝ }
 {
-    pair_place(links, book.periods as usize, point, element)
+    let used = book.periods as usize;
+    search_pair(&links[..used], point, element)
 }
 
-// Everything recorded for a point and an element, as that part of the link table; the empty part where the query is refused. `asked` is
-// what its questions have answered: 2 to 5 of the book, then 7 and 8 (`validation::questions::ask_pair`). Logarithmic in the rows.
-pub fn periods(asked: Answer, book: Book, links: &[u64], point: u64, element: u64) -> &[u64]
+// Everything recorded for a point and an element, as that part of the link table, and in `read` how many periods were read; the empty part
+// and 0 where the query is refused. `asked` is what its questions have answered: 2 to 5 of the book, then 7 and 8
+// (`validation::questions::ask_pair`). Linear in the rows up to the first beyond the point and element.
+pub fn periods<'a>(
+    asked: Answer,
+    book: Book,
+    links: &'a [u64],
+    point: u64,
+    element: u64,
+    read: &mut u64,
+) -> &'a [u64]
     requires { ⌜ (numberOf asked ≡ 0 → ((o : Lists) × periodsNumber (worldIn book (lendLinks (now links) o)) point element ≡ 0)) ⌝ }
     ensures answers { λ r. ⌜ ((o : Lists) →
         let w = worldIn book (lendLinks (was links) o) in
-        numberOf asked ≡ periodsNumber w point element → now r ≡ periodsQuery w point element) ⌝ }
-    ensures refused { λ r. ⌜ (numberOf asked ≢ 0 → now r ≡ []) ⌝ }
+        numberOf asked ≡ periodsNumber w point element
+        → (now r ≡ periodsQuery w point element) × (left read ≡ periodsRead w point element)) ⌝ }
+    ensures refused { λ r. ⌜ (numberOf asked ≢ 0 → (now r ≡ []) × (left read ≡ 0)) ⌝ }
 {
     if number(asked) == 0 {
-        pair_part(links, book.periods as usize, point, element)
+        let part = periods_place(book, links, point, element);
+        *read = part.read as u64;
+        let from = part.place;
+        let to = part.place + part.count;
+        &links[from..to]
     } else {
+        *read = 0;
         &links[0..0]
     }
 }

@@ -1,13 +1,13 @@
 -- The queries: "a query 2 to 5, then 6 for a supplier number (0 is refused), 7, 8". None changes anything.
-use Prim.Native.Nat.{ℕ, _+_}
-use mathlib.Core.Bool.{Bool, _&&_, cond}
-use mathlib.Core.List.{List, []}
+use Prim.Native.Nat.{ℕ, suc, _+_}
+use mathlib.Core.Bool.{Bool, _&&_, _||_, cond}
+use mathlib.Core.List.{List, [], _∷_}
 use mathlib.Core.Option.{Option}
 use lib.IntN.{ℤ, pos, natAbs}
 use lib.ListN.{getD}
 use lib.Dec.{eqb, ltb}
 use Rattle.rules.specs.Basics.{within, anyTo, firstFrom}
-use Rattle.rules.specs.Rows.{pairRows}
+use Rattle.rules.specs.Rows.{periodPoint, periodElement, pairRows}
 use Rattle.rules.specs.Lines.{Facts, Measure, line}
 use Rattle.rules.specs.World.{Opening, Tables, World, rowsOf, termsOf, factsOf, holderOn, stateOn, countingState, linkedOn}
 use Rattle.rules.specs.World.{lineAt, amountOf, kronerOf, billionthsOf, monthFirst, monthDays}
@@ -68,6 +68,20 @@ periodsNumber w p e = askBook w (ask (ltb p (w .opening .points)) 7 (ask (ltb e 
 -- part"
 unfoldable pub periodsQuery : World → (point element : ℕ) → List ℕ
 periodsQuery w p e = cond (eqb (periodsNumber w p e) 0) (pairRows p e (rowsOf (w .position .tables .links))) []
+
+-- is the period "beyond the point and element sought": of a later point, or of the point and a later element
+unfoldable pub beyondPair : (point element row : ℕ) → Bool
+beyondPair p e w = ltb p (periodPoint w) || (eqb (periodPoint w) p && ltb e (periodElement w))
+
+-- how many of the periods the search reads, which "shall end at the first period beyond the point and element sought": "that one and all
+-- before it, or all where none is beyond"
+unfoldable pub readTo : (point element : ℕ) → (rows : List ℕ) → ℕ
+readTo p e [] = 0
+readTo p e (w ∷ ws) = cond (beyondPair p e w) 1 (suc (readTo p e ws))
+
+-- "and name how many periods it read", "0 where refused"
+unfoldable pub periodsRead : World → (point element : ℕ) → ℕ
+periodsRead w p e = cond (eqb (periodsNumber w p e) 0) (readTo p e (rowsOf (w .position .tables .links))) 0
 
 -- ---- the earliest day without a holder
 

@@ -36,7 +36,7 @@ use Rattle.recording.specs.Opened.{freshBook, cleared}
 use Rattle.recording.proofs.ClearLaws.{opened-cleared}
 use Rattle.queries.specs.Promises.{LineAnswered}
 use Rattle.queries.proofs.Asks.{line-passed}
-use Rattle.queries.proofs.Answered.{line-refused}
+use Rattle.queries.proofs.Answered.{line-refused, periods-refused}
 use Rattle.settlement.specs.declared.Reply.{Reply}
 use Rattle.settlement.specs.Replies.{roomIn, Replied}
 use Rattle.settlement_book.specs.Numbers.{bookIn, numbersIn, lineNumbers, lineAfter, InKrone, noDay, dayAfter}
@@ -117,10 +117,18 @@ module _ (w : World) (s e : ℕ) where
 
 -- ---- the periods
 
-pub periods-no-book : (w : World) (p e : ℕ) (r : ℕ) → r ≡ askBook w 0 → r ≢ 0 → (p₀ n₀ : ℕ) → PeriodsIn w p e r p₀ p₀ n₀ n₀
-unfolding periodsNumber
-periods-no-book w p e r h z p₀ n₀ =
-    record { number = h ∙ sym (book-refused w (λ x. z (h ∙ x)) _); refused = λ _. (refl, refl); answered = λ k. absurd (z k) }
+-- refused, with nothing written but that nothing was read
+pub periods-refused-in : (w : World) (p e : ℕ) (r : ℕ) → r ≡ periodsNumber w p e → r ≢ 0 → (p₀ n₀ : ℕ) → PeriodsIn w p e r p₀ p₀ n₀ n₀ 0
+periods-refused-in w p e r h z p₀ n₀ = record {
+  number = h;
+  refused = λ _. (refl, refl);
+  answered = λ k. absurd (z k);
+  read = periods-refused w p e (λ x. z (h ∙ x)) .1;
+}
+
+-- of a book that is not well formed
+pub periods-no-book : (w : World) (p e : ℕ) (r : ℕ) → r ≡ askBook w 0 → r ≢ 0 → (p₀ n₀ : ℕ) → PeriodsIn w p e r p₀ p₀ n₀ n₀ 0
+periods-no-book w p e r h z = periods-refused-in w p e r (h ∙ sym (unfold periodsNumber in book-refused w (λ x. z (h ∙ x)) _)) z
 
 -- ---- the earliest day without a holder
 

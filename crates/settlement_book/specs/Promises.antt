@@ -11,7 +11,7 @@ use Rattle.rules.specs.declared.Fields.{Fields}
 use Rattle.rules.specs.World.{World, bookOf, InBook}
 use Rattle.rules.specs.Opening.{openingAnswer, afterOpening}
 use Rattle.rules.specs.Effects.{answer, step, recordsOf}
-use Rattle.rules.specs.Queries.{lineNumber, lineQuery, lineGiven, ownLine, periodsNumber, dayNumber, dayQuery}
+use Rattle.rules.specs.Queries.{lineNumber, lineQuery, lineGiven, ownLine, periodsNumber, periodsRead, dayNumber, dayQuery}
 use Rattle.rules.specs.Fresh.{freshFacts}
 use Rattle.rules.specs.Claim.{Event, reached}
 use Rattle.ledger.specs.RecordNumbers.{numbersAfter}
@@ -42,11 +42,13 @@ pub record LineIn (w : World) (supplier element : ℕ) (r : ℕ) (lent out : Lis
   pub settled : (w₀ : World) (vs : List Event) → openingAnswer w₀ ≡ 0 → w ≡ reached w₀ vs .world → InBook (w₀ .opening) supplier element
       → out ≡ lineNumbers (lineGiven (w₀ .opening) (freshFacts (reached w₀ vs .fresh)) supplier element)
 
--- the periods of a point and element: where they stand in the link table, and how many there are, p₀ and n₀ being both as they were lent
-pub record PeriodsIn (w : World) (point element : ℕ) (r p₀ p n₀ n : ℕ) : Type 0 where
+-- the periods of a point and element: where they stand in the link table, and how many there are, p₀ and n₀ being both as they were lent;
+-- and how many periods were read
+pub record PeriodsIn (w : World) (point element : ℕ) (r p₀ p n₀ n told : ℕ) : Type 0 where
   pub number : r ≡ periodsNumber w point element
   pub refused : r ≢ 0 → (p ≡ p₀) × (n ≡ n₀)
-  pub answered : r ≡ 0 → PeriodsAt w point element p n
+  pub answered : r ≡ 0 → PeriodsAt w point element p n told
+  pub read : told ≡ periodsRead w point element
 
 -- the query for the earliest day without a holder: its number, and the day
 pub record DayIn (w : World) (point : ℕ) (r lent out : ℕ) : Type 0 where

@@ -317,7 +317,8 @@ pub extern "C" fn settlement_book_line(
 // ---- the periods of a point and element
 
 // Where everything recorded for a point and an element stands in the link table, of a book that is well formed: the place of the first row,
-// and how many there are. For the Rust wrapper alone. Logarithmic in the rows of the book.
+// and how many there are; and how many rows were read, which is 0 where the query is refused. For the Rust wrapper alone. Linear in the
+// rows up to the first beyond the point and element.
 #[no_mangle]
 pub extern "C" fn settlement_book_periods_within(
     book: &[u64],
@@ -326,21 +327,24 @@ pub extern "C" fn settlement_book_periods_within(
     element: u64,
     place: &mut u64,
     count: &mut u64,
+    read: &mut u64,
 ) -> u64
     requires { ⌜ length (now book) ≡ bookSize ⌝ }
     requires { ⌜ ((o : Lists) × Whole (worldIn (bookIn (now book)) (lendLinks (now links) o))) ⌝ }
     ensures { λ r. ⌜ ((o : Lists) →
         let w = worldIn (bookIn (was book)) (lendLinks (was links) o) in
-        Whole w → PeriodsIn w point element r (was place) (left place) (was count) (left count)) ⌝ }
+        Whole w → PeriodsIn w point element r (was place) (left place) (was count) (left count) (left read)) ⌝ }
 {
     let held = book_of(book);
     let asked = number(ask_pair(held, point, element));
     if asked != 0 {
+        *read = 0;
         return asked;
     }
     let part = periods_place(held, links, point, element);
     *place = part.place as u64;
     *count = part.count as u64;
+    *read = part.read as u64;
     0
 }
 
@@ -361,12 +365,15 @@ pub extern "C" fn settlement_book_periods(
     element: u64,
     place: &mut u64,
     count: &mut u64,
+    read: &mut u64,
 ) -> u64
     ensures answers { λ r. ⌜ (let t = lent element_data prices links holders states readings blocks lines sent in
-        SizedBook (was book)
-        → PeriodsIn (worldIn (bookIn (was book)) (t .entry)) point element r (was place) (left place) (was count) (left count)) ⌝ }
-    ensures otherwise { λ r. ⌜ ((SizedBook (was book) → ⊥) → (r ≡ 3) × (left place ≡ was place) × (left count ≡ was count)) ⌝ }
+        SizedBook (was book) → PeriodsIn (worldIn (bookIn (was book)) (t .entry)) point element r
+        (was place) (left place) (was count) (left count) (left read)) ⌝ }
+    ensures otherwise { λ r. ⌜ ((SizedBook (was book) → ⊥)
+        → (r ≡ 3) × (left place ≡ was place) × (left count ≡ was count) × (left read ≡ 0)) ⌝ }
 {
+    *read = 0;
     if book.len() != BOOK_SIZE {
         return number(Answer::WrongLength);
     }
@@ -383,7 +390,7 @@ pub extern "C" fn settlement_book_periods(
         sent,
     );
     if number(asked) == 0 {
-        settlement_book_periods_within(book, links, point, element, place, count)
+        settlement_book_periods_within(book, links, point, element, place, count, read)
     } else {
         number(asked)
     }

@@ -1,26 +1,25 @@
 -- The rows of one point and element are one part of rows in order, and a stop takes the end of that part: those that start on the day or
 -- later.
-use Prim.Native.Nat.{ℕ, suc, _+_, _-_, _≤_, _<_}
+use Prim.Native.Nat.{ℕ, suc, _+_, _≤_, _<_}
 use mathlib.Core.Path.{_≡_, sym, ap, _∙_}
 use mathlib.Core.Bool.{true, false}
 use mathlib.Core.List.{List, [], _∷_}
-use lib.Dec.{ltb, leb, eqb}
-use lib.ListN.{length, take, drop, length-take, length-drop}
+use lib.Dec.{ltb, leb}
+use lib.ListN.{take, drop}
 use native.Mathlib.Omega.{arith}
 use native.Mathlib.Nat.{le-refl, not-suc-le-zero}
-use borrow.Author.Tests.{ltb-true, ltb-false, lt-ltb, eq-eqb}
+use borrow.Author.Tests.{ltb-true, ltb-false}
 use Rattle.rules.specs.Sizes.{dayRoom, elementRoom}
-use Rattle.rules.specs.Rows.{packPeriod, periodPoint, periodElement, periodFirst, periodEnd, ofPair, pairRows, stopRows}
+use Rattle.rules.specs.Rows.{packPeriod, periodPoint, periodElement, periodFirst, periodEnd, ofPair, stopRows}
 use Rattle.rules.proofs.Tests.{tests, cases}
 use Rattle.rules.specs.Order.{from, upto, Run, done, next}
 use Rattle.rules.proofs.Words.{spot, first-lt, element-lt, pair-true, pair-is}
 use Rattle.rules.proofs.Clauses.{stop-nil, stop-cons}
 use Rattle.tables.specs.Order.{PairFits, DayFits, LinkRows, ClearBehind}
-use Rattle.tables.specs.RowRange.{beforePair, pairPlace, PairAt}
 use Rattle.tables.specs.Search.{rowsBelow, RowPlace, without, cutRow, cutBefore, Changed}
-use Rattle.tables.proofs.Order.{below-mono, run-rising}
+use Rattle.tables.proofs.Order.{below-mono}
 use Rattle.tables.proofs.Parts.{take-cut}
-use Rattle.tables.proofs.RowRange.{Between, keep-count, range-order, range-is}
+use Rattle.tables.proofs.RowRange.{Between}
 use Rattle.tables.proofs.Days.{below-day, from-day}
 
 module _ (p e : ℕ) (he : e < elementRoom) (w : ℕ) where
@@ -49,47 +48,6 @@ pair-between p e he =
           (λ t. t);
       inside = λ w h l. pair-in p e he w 0 (from-day p e 0 w h) (below-day p (e + 1) 0 w l) .0;
       past = λ w h. pair-past p e he w (from-day p (e + 1) 0 w h);
-    }
-
--- and behind the rows of earlier points and elements
-before-between : (p e : ℕ) → e < elementRoom → Between (beforePair p e) 0 (packPeriod p e 0 0 0)
-unfolding beforePair
-before-between p e he =
-    record {
-      order = omega arith;
-      before = λ w h. absurd (not-suc-le-zero h);
-      inside = λ w h l. let k = below-day p e 0 w l in cases (ltb (periodPoint w) p)
-          (λ t. rw t)
-          (λ t. let a = element-lt w in
-          let i : periodPoint w ≡ p = omega (arith, tests) in
-          let j : periodElement w < e = omega arith in
-          rw (t, eq-eqb _ _ i, lt-ltb _ _ j));
-      past = λ w h. let k = from-day p e 0 w h in
-          let a = first-lt w in
-          let b = element-lt w in
-          let i : ltb (periodPoint w) p ≡ false = omega (arith, tests) in
-          cases (eqb (periodPoint w) p)
-          (λ t. let j : ltb (periodElement w) e ≡ false = omega (arith, tests) in rw (i, t, j))
-          (λ t. rw (i, t));
-    }
-
-pub pair-at : {p e n from to : ℕ} {xs : List ℕ} → e < elementRoom → LinkRows xs n → RowPlace xs n (packPeriod p e 0 0 0) from
-    → RowPlace xs n (packPeriod p (e + 1) 0 0 0) to
-    → PairAt p e xs n from (to - from)
-unfolding pairRows pairPlace
-pair-at {p = p} {e = e} {n = n} {from = from} {to = to} {xs = xs} he r f t =
-    let b = pair-between p e he in
-    let o = range-order b f t in
-    let up = run-rising (r .run) in
-    let rows = range-is b f t up in
-    let h = r .fits in
-    let k = t .within in
-    let m : length (take (to - from) (drop from xs)) ≡ to - from = simp (length-take, length-drop) (omega arith) in
-    record {
-      from = f .is ∙ sym (keep-count (before-between p e he) up (omega arith));
-      many = sym m ∙ ap length rows;
-      rows = rows;
-      within = omega arith;
     }
 
 -- ---- a stop

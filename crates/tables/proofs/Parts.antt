@@ -100,6 +100,10 @@ module _ {A : Type 0} where
   take-drop (suc a) (suc n) [] = take-nil (suc n - suc a)
   take-drop (suc a) (suc n) (x ∷ xs) = let e : suc n - suc a ≡ n - a = omega arith in rw e (take-drop a n xs)
 
+  -- a part of the first n entries, read from the whole list
+  pub part-within : (a b n : ℕ) (xs : List A) → b ≤ n → take (b - a) (drop a xs) ≡ take (b - a) (drop a (take n xs))
+  part-within a b n xs h = take-drop a b xs ∙ ap (drop a) (sym (take-take b n xs h)) ∙ sym (take-drop a b (take n xs))
+
 zeros-left : (n k : ℕ) → k ≤ n → n ≤ places → k + (places - n) ≡ places - (n - k)
 zeros-left n k h m = omega arith
 

@@ -35,7 +35,7 @@ ghost use Rattle.tables.specs.Order.{pointRoom, OrderedRows, LinkRows, V
 ghost use Rattle.tables.specs.Tests.{isZero, rowFitsAt, kindAllows, daysRight};
 ghost use Rattle.tables.specs.Search.{RowPlace, Covering, coveringRow, isGiven, endOn, nextRecorded, rowFrom};
 ghost use Rattle.tables.specs.Search.{Changed, cutRow, cutBefore, putIn, without, moved};
-ghost use Rattle.tables.specs.RowRange.{pointRows, PairAt};
+ghost use Rattle.tables.specs.RowRange.{pointRows};
 ghost use Rattle.rules.specs.Lent.{Lists, noLists, openingIn, lendData, left, was};
 
 // ---- fields, in constant time
@@ -519,33 +519,14 @@ pub fn starts_on(table: &[u64], used: usize, point: u64, element: u64, day: u64)
     recorded(table, used, FIRST_UNIT, point * ELEMENT_ROOM + element, day)
 }
 
-// A part of a table: the place of its first row, and how many rows it has.
-pub struct Part {
-    pub place: usize,
-    pub count: usize,
-}
-
-// Where everything recorded for one point and element stands. Two searches.
-pub fn pair_place(table: &[u64], used: usize, point: u64, element: u64) -> Part
-    requires { ⌜ LinkRows (now table) used ⌝ }
-    requires { ⌜ PairFits point element ⌝ }
-    ensures { λ r. ⌜ PairAt point element (was table) used (r .place) (r .count) ⌝ }
-{
-    let from = place(table, used, pack_period(point, element, 0, 0, 0));
-    let to = place(table, used, pair_bound(point, element));
-    let count = to - from;
-    Part { place: from, count }
-}
-
-// Everything recorded for one point and element: that part of the table, not a copy.
+// Everything recorded for one point and element: that part of the table, not a copy. Two searches.
 pub fn pair_part(table: &[u64], used: usize, point: u64, element: u64) -> &[u64]
     requires { ⌜ LinkRows (now table) used ⌝ }
     requires { ⌜ PairFits point element ⌝ }
     ensures { λ r. ⌜ now r ≡ pairRows point element (take used (was table)) ⌝ }
 {
-    let part = pair_place(table, used, point, element);
-    let from = part.place;
-    let to = part.place + part.count;
+    let from = place(table, used, pack_period(point, element, 0, 0, 0));
+    let to = place(table, used, pair_bound(point, element));
     &table[from..to]
 }
 

@@ -55,6 +55,7 @@ enum part {
     LINE,
     PLACE,
     COUNT,
+    READ,
     DAY,
     PARTS
 };
@@ -85,6 +86,7 @@ static const struct {
     [LINE] = {sizeof(int64_t), SETTLEMENT_BOOK_LINE_SIZE},
     [PLACE] = {sizeof(uint64_t), 1},
     [COUNT] = {sizeof(uint64_t), 1},
+    [READ] = {sizeof(uint64_t), 1},
     [DAY] = {sizeof(uint64_t), 1},
 };
 
@@ -196,7 +198,7 @@ static uint64_t call_line(void) {
 }
 
 static uint64_t call_periods(void) {
-    return settlement_book_periods(TABLES, asked_point, asked_element, numbers(PLACE), numbers(COUNT));
+    return settlement_book_periods(TABLES, asked_point, asked_element, numbers(PLACE), numbers(COUNT), numbers(READ));
 }
 
 static uint64_t call_day(void) { return settlement_book_day_without_holder(TABLES, asked_point, numbers(DAY)); }
@@ -221,7 +223,7 @@ enum { OPEN, MESSAGE, QUERY_LINE, QUERY_PERIODS, QUERY_DAY, FUNCTIONS };
 /* Calls a function that is to give an answer and to change nothing but the parts that it may. What it may give beside the answer holds
  * something else before, so that a number written too much is seen. */
 static void call(int function, const char *what, uint64_t answer, unsigned may) {
-    static const enum part given[] = {RECORDS, LINE, PLACE, COUNT, DAY};
+    static const enum part given[] = {RECORDS, LINE, PLACE, COUNT, READ, DAY};
     for (size_t i = 0; i < sizeof given / sizeof given[0]; i++) {
         memset(start[given[i]], STALE_BYTE, size_of(given[i]));
     }
@@ -229,6 +231,14 @@ static void call(int function, const char *what, uint64_t answer, unsigned may) 
     uint64_t found = functions[function].call();
     expect_number(what, "the answer", (int64_t)found, (int64_t)answer);
     expect(what, "nothing else changes", changed_only(may));
+}
+
+/* A function that is refused changes nothing, but that a query for periods tells that it read none. */
+static void refused(int function, const char *what, uint64_t question) {
+    call(function, what, question, function == QUERY_PERIODS ? ONLY(READ) : NOTHING);
+    if (function == QUERY_PERIODS) {
+        expect_number(what, "the periods read", (int64_t)*numbers(READ), 0);
+    }
 }
 
 static void message(const char *what, const uint64_t fields[SETTLEMENT_BOOK_FIELDS_SIZE], uint64_t answer, unsigned may) {
@@ -265,21 +275,22 @@ static void line_is(uint64_t supplier, uint64_t element, int64_t quantity, int64
 static void line_refused(uint64_t supplier, uint64_t element, uint64_t question) {
     asked_supplier = supplier;
     asked_element = element;
-    call(QUERY_LINE, "line that is refused", question, NOTHING);
+    refused(QUERY_LINE, "line that is refused", question);
 }
 
-static void periods_at(uint64_t element, uint64_t place, uint64_t count) {
+static void periods_at(uint64_t element, uint64_t place, uint64_t count, uint64_t read) {
     asked_point = 0;
     asked_element = element;
-    call(QUERY_PERIODS, "periods", SETTLEMENT_BOOK_ACCEPTED, ONLY(PLACE) | ONLY(COUNT));
+    call(QUERY_PERIODS, "periods", SETTLEMENT_BOOK_ACCEPTED, ONLY(PLACE) | ONLY(COUNT) | ONLY(READ));
     expect_number("periods", "the place", (int64_t)*numbers(PLACE), (int64_t)place);
     expect_number("periods", "the count", (int64_t)*numbers(COUNT), (int64_t)count);
+    expect_number("periods", "the periods read", (int64_t)*numbers(READ), (int64_t)read);
 }
 
 static void periods_refused(uint64_t point, uint64_t element, uint64_t question) {
     asked_point = point;
     asked_element = element;
-    call(QUERY_PERIODS, "periods that are refused", question, NOTHING);
+    refused(QUERY_PERIODS, "periods that are refused", question);
 }
 
 static void period_is(size_t row, uint64_t element, uint64_t first, uint64_t past, uint64_t quantity) {
@@ -325,7 +336,7 @@ static void opening(void) {
         }
         expect_number("opening", "bytes of a table that are not 0", (int64_t)nonzero, 0);
     }
-    periods_at(0, 0, 0);
+    periods_at(0, 0, 0, 0);
     line_is(1, 0, 0, 0, 0);
     day_is(SETTLEMENT_BOOK_NO_DAY);
 }
@@ -404,15 +415,15 @@ static void short_list(void) {
 
 static void periods(void) {
     static const uint64_t quantity[] = {3, 1, 0, FIRST_DAY, 0, 0, 8830, 0, 5};
-    periods_at(0, 0, 1);
+    periods_at(0, 0, 1, 2);
     period_is(0, 0, FIRST_DAY, SETTLEMENT_BOOK_NO_DAY, 2);
-    periods_at(1, 1, 1);
+    periods_at(1, 1, 1, 2);
     period_is(1, 1, FIRST_DAY, SETTLEMENT_BOOK_NO_DAY, 1);
     accepted("another quantity", quantity);
-    periods_at(0, 0, 2);
+    periods_at(0, 0, 2, 3);
     period_is(0, 0, FIRST_DAY, 8830, 2);
     period_is(1, 0, 8830, SETTLEMENT_BOOK_NO_DAY, 5);
-    periods_at(1, 2, 1);
+    periods_at(1, 2, 1, 3);
     period_is(2, 1, FIRST_DAY, SETTLEMENT_BOOK_NO_DAY, 1);
     periods_refused(POINTS, 0, 7);
     periods_refused(0, ELEMENTS, 8);
@@ -430,7 +441,7 @@ static void days_without_holder(void) {
     accepted("a holder from day 8845 to day 8849", again);
     day_is(8850);
     asked_point = POINTS;
-    call(QUERY_DAY, "day without a holder that is refused", 7, NOTHING);
+    refused(QUERY_DAY, "day without a holder that is refused", 7);
 }
 
 /* What every function accepts but for what the next two tests change. */
@@ -453,7 +464,7 @@ static void wrong_lengths(void) {
             const size_t wrong[] = {0, shape[part].length - 1, shape[part].length + 1};
             for (size_t i = 0; i < sizeof wrong / sizeof wrong[0]; i++) {
                 length[part] = wrong[i];
-                call(function, functions[function].name, SETTLEMENT_BOOK_WRONG_LENGTH, NOTHING);
+                refused(function, functions[function].name, SETTLEMENT_BOOK_WRONG_LENGTH);
             }
             length[part] = shape[part].length;
         }
@@ -470,12 +481,12 @@ static void wrong_books(void) {
     ask_for_what_is_there();
     for (int function = 0; function < FUNCTIONS; function++) {
         numbers(BOOK)[YEAR_AT] = 1999;
-        call(function, functions[function].name, 2, NOTHING);
+        refused(function, functions[function].name, 2);
         numbers(BOOK)[YEAR_AT] = YEAR;
         for (size_t slip = 0; slip < sizeof slips / sizeof *slips && function != OPEN; slip++) {
             const uint64_t right = numbers(BOOK)[slips[slip].at];
             numbers(BOOK)[slips[slip].at] = slips[slip].wrong;
-            call(function, functions[function].name, 5, NOTHING);
+            refused(function, functions[function].name, 5);
             numbers(BOOK)[slips[slip].at] = right;
         }
     }

@@ -21,7 +21,7 @@ number-requires c κs = search needs
 returns : tie.Need-returns
 returns c =
     let short : tie.Then1 = search in
-    (λ sized. absurd (short .if1 .taken sized), λ _. (c .number .ensures, refl, refl))
+    (λ sized. absurd (short .if1 .taken sized), λ _. (c .number .ensures, refl, refl, refl))
 
 book-of-requires : tie.Need-book-of-requires
 book-of-requires c κs = search needs

@@ -8,7 +8,7 @@ use Rattle.rules.specs.Whole.{Whole}
 use Rattle.queries.proofs.Asks.{periods-asks}
 use Rattle.settlement_book.specs.Numbers.{bookIn}
 use Rattle.settlement_book.specs.Promises.{PeriodsIn}
-use Rattle.settlement_book.proofs.Answers.{whole-as}
+use Rattle.settlement_book.proofs.Answers.{whole-as, periods-refused-in}
 use borrow.Author.Needs.{needs}
 use Rattle.settlement_book.proofs.settlement_book_periods_within.Statement.{statement}
 use Rattle.settlement_book.proofs.settlement_book_periods_within.Tie as tie
@@ -50,8 +50,8 @@ returns c o whole =
     let numbered : tie.After-number = search in
     let a = start-of (named-of numbered) .args in
     subst (λ (b : Book). PeriodsIn (worldIn b (lent numbered o)) (a .point) (a .element) (numbered .number .result) (a .place .now)
-    (a .place .now) (a .count .now) (a .count .now)) (named-of numbered .book-of .ensures)
-    (record { number = asked numbered o whole; refused = λ _. (refl, refl); answered = λ z. absurd (c .if1 .taken z) })
+    (a .place .now) (a .count .now) (a .count .now) 0) (named-of numbered .book-of .ensures)
+    (periods-refused-in _ (a .point) (a .element) _ (asked numbered o whole) (c .if1 .taken) (a .place .now) (a .count .now))
 
 periods-place-requires : tie.Need-periods-place-requires
 periods-place-requires c κs =
@@ -68,9 +68,10 @@ returns-2 c o whole =
     let a = start-of (named-of numbered) .args in
     let part = found .periods-place .result in
     let k = sym (asked numbered o whole) ∙ passed .if1 .left in
+    let at = found .periods-place .ensures o k in
     subst (λ (b : Book). PeriodsIn (worldIn b (lent numbered o)) (a .point) (a .element) 0 (a .place .now) (part .place) (a .count .now)
-    (part .count)) (named-of numbered .book-of .ensures)
-    (record { number = sym k; refused = λ z. absurd (z refl); answered = λ _. found .periods-place .ensures o k })
+    (part .count) (part .read)) (named-of numbered .book-of .ensures)
+    (record { number = sym k; refused = λ z. absurd (z refl); answered = λ _. at; read = at .read })
 
 pub settlement-book-periods-within-spec : {M : Type 1} → statement M
 settlement-book-periods-within-spec =
