@@ -26,6 +26,7 @@ trap 'rm -rf "$inputs"' EXIT
 
 "$programs/measure" --seed "$seed" --seconds "${SECONDS_EACH:-8}"
 "$programs/growth" "$seed"
+"$programs/places" "$seed"
 
 printf '\n## Programs on the file of the typical month with 16 points (%s bytes)\n\n' "$(stat -c %s "$inputs/month-16")"
 "$programs/time-programs" "$inputs/month-16" "$runs" \

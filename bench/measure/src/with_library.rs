@@ -11,6 +11,29 @@ pub struct Library {
     records: Vec<settlement_book::Record>,
 }
 
+impl Library {
+    /// How many periods stand before those of a point and an element, how many these
+    /// are, and how many the query read.
+    pub fn place_of(&self, point: u64, element: u64) -> (u64, u64, u64) {
+        let elements = self.book.counts().elements;
+        let pair = point * elements + element;
+        let count = |pair, read: &mut u64| {
+            let periods = self.book.periods(pair / elements, pair % elements, read);
+            periods.map_or(0, |periods| periods.len() as u64)
+        };
+        let before = (0..pair).map(|earlier| count(earlier, &mut 0)).sum();
+        let mut read = 0;
+        (before, count(pair, &mut read), read)
+    }
+
+    /// How many periods are recorded for a point and an element, by the function that
+    /// asks questions 2 to 5 first.
+    pub fn period_count_checked(&self, point: u64, element: u64) -> u64 {
+        let periods = self.book.periods_checked(point, element, &mut 0);
+        periods.map_or(0, |periods| periods.len() as u64)
+    }
+}
+
 impl Settlement for Library {
     fn open(opening: &Opening) -> Self {
         let (elements, prices) = (&opening.elements, &opening.prices);
@@ -51,7 +74,7 @@ impl Settlement for Library {
     }
 
     fn period_count(&mut self, point: u64, element: u64) -> u64 {
-        let periods = self.book.periods(point, element);
+        let periods = self.book.periods(point, element, &mut 0);
         periods.map_or(0, |periods| periods.len() as u64)
     }
 
