@@ -16,7 +16,8 @@
 
 /* ---- answers
  *
- * Every function answers 0, or the number of the first question that says no; then nothing that was lent has changed.
+ * Every function answers 0, or the number of the first question that says no; then nothing that was lent has changed, but that a query
+ * for periods has told that it read none.
  *
  *    2  the month and every count are within their limits
  *    3  each table, and the caller's list for a book, a message or a line, has its exact length

@@ -76,40 +76,25 @@ exported! { const:
 }
 
 // The queries of a well-formed book are lent the tables that they read.
+#[rustfmt::skip]
 unsafe extern "C" {
-    #[rustfmt::skip]
     fn settlement_book_line_within(
-        book: *const u64,
-        book_length: usize,
-        lines: *const i64,
-        lines_length: usize,
-        supplier: u64,
-        element: u64,
-        line: *mut i64,
-        line_length: usize,
+        book: *const u64, book_length: usize,
+        lines: *const i64, lines_length: usize,
+        supplier: u64, element: u64,
+        line: *mut i64, line_length: usize,
     ) -> u64;
-    #[rustfmt::skip]
     fn settlement_book_periods_within(
-        book: *const u64,
-        book_length: usize,
-        links: *const u64,
-        links_length: usize,
-        point: u64,
-        element: u64,
-        place: *mut u64,
-        count: *mut u64,
-        read: *mut u64,
+        book: *const u64, book_length: usize,
+        links: *const u64, links_length: usize,
+        point: u64, element: u64,
+        place: *mut u64, count: *mut u64, read: *mut u64,
     ) -> u64;
-    #[rustfmt::skip]
     fn settlement_book_day_without_holder_within(
-        book: *const u64,
-        book_length: usize,
-        links: *const u64,
-        links_length: usize,
-        holders: *const u64,
-        holders_length: usize,
-        states: *const u64,
-        states_length: usize,
+        book: *const u64, book_length: usize,
+        links: *const u64, links_length: usize,
+        holders: *const u64, holders_length: usize,
+        states: *const u64, states_length: usize,
         point: u64,
         day: *mut u64,
     ) -> u64;
@@ -306,9 +291,9 @@ impl Book {
     }
 
     /// Everything recorded for a point and an element, by first day, or question 7 or
-    /// 8: that part of the link table, not a copy. `read` is how many periods the search
-    /// read: those up to the first beyond the point and element, and that one; 0 where
-    /// the query is refused.
+    /// 8: that part of the link table, not a copy. `read` becomes how many periods the
+    /// search read: the first beyond the point and element and all before it, or all in
+    /// use where none is beyond; 0 where the query is refused.
     #[inline]
     pub fn periods<'a>(
         &'a self,
@@ -477,8 +462,9 @@ mod tests {
         (answer, place, count, read)
     }
 
-    /// The same without questions 2 to 5. The caller sees to it that the numbers are an
-    /// opened book's: the search reads that many rows at most, and asks no order of them.
+    /// The same without questions 2 to 5, of a book whose rows may be out of order. That is
+    /// less than the function asks; `queries::search_pair`, by which it searches, asks no
+    /// order, and the numbers are an opened book's, so it stays within the rows in use.
     fn searched(book: &Book, point: u64, element: u64) -> (u64, u64, u64, u64) {
         let (mut place, mut count, mut read) = (6, 7, 8);
         let answer = unsafe {
@@ -573,22 +559,24 @@ mod tests {
                 assert_eq!(book.message(&link(point, element, day)), Ok(&[][..]));
             }
         }
-        let rows = book.numbers[5] as usize;
-        assert_eq!(rows, 14);
+        // Place, count and periods read, of each point and element.
+        let expected = [
+            [(0, 2, 3), (2, 0, 3), (2, 2, 5)],
+            [(4, 0, 5), (4, 2, 7), (6, 2, 9)],
+            [(8, 2, 11), (10, 2, 13), (12, 2, 14)],
+        ];
         for (point, element) in (0..3).flat_map(|point| (0..3).map(move |e| (point, e))) {
-            let found = searched(&book, point, element);
-            let (_, place, count, read) = found;
-            assert_eq!(read, 14.min(place + count + 1));
-            let behind = read as usize..rows;
+            let (place, count, read) = expected[point as usize][element as usize];
+            let found = (0, place, count, read);
+            assert_eq!(searched(&book, point, element), found);
+            let behind = read as usize..14;
             let mut other = book.clone();
             other.links[behind.clone()].reverse();
             assert_eq!(searched(&other, point, element), found);
-            other.links[behind.clone()].fill(0);
-            assert_eq!(searched(&other, point, element), found);
-            other.links[behind.clone()].fill(book.links[0]);
-            assert_eq!(searched(&other, point, element), found);
-            other.links[behind.clone()].fill(u64::MAX);
-            assert_eq!(searched(&other, point, element), found);
+            for word in [0, book.links[0], u64::MAX] {
+                other.links[behind.clone()].fill(word);
+                assert_eq!(searched(&other, point, element), found);
+            }
             // The query for any book refuses such a table, and reads none of it.
             if !behind.is_empty() {
                 assert_eq!(periods_lent(&other, point, element), (5, 6, 7, 0));

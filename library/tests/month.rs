@@ -607,28 +607,27 @@ fn the_search_ends_at_the_first_period_beyond() {
 }
 
 #[test]
-fn a_full_table_is_read_to_its_end_for_the_last_pair_alone() {
-    let days = [FIRST, FIRST + 7, FIRST + 14, FIRST + 21];
-    // Points 0 to 255 have four periods each, of element 1.
-    let each = |point| days.map(move |day| (point, 1, day));
+fn a_full_table_is_read_up_to_the_next_pair() {
+    // Two periods of the first element and two of the last on each point.
+    let each = |point| {
+        [(0, FIRST), (0, FIRST + 7), (63, FIRST), (63, FIRST + 7)].map(|(e, d)| (point, e, d))
+    };
     let links = (0..256).flat_map(each).collect::<Vec<_>>();
     assert_eq!(links.len(), 1024);
-    let book = linked(256, 3, &links);
-    let rows_to = |point: u64| 4 * (point + 1);
+    let mut book = linked(256, 64, &links);
     for point in 0..256 {
-        let before = rows_to(point) - 4;
-        let found = (0..3).map(|element| {
+        let found = [0, 1, 62, 63].map(|element| {
             let (found, read) = periods(&book, point, element);
             (read, found.unwrap().len())
         });
-        let behind = rows_to(point) + u64::from(point < 255);
-        let expected = [(before + 1, 0), (behind, 4), (behind, 0)];
-        assert_eq!(found.collect::<Vec<_>>(), expected, "point {point}");
+        let before = 4 * point;
+        // Behind the last pair none is beyond.
+        let last = 1024.min(before + 5);
+        let expected = [(before + 3, 2), (before + 3, 0), (before + 3, 0), (last, 2)];
+        assert_eq!(found, expected, "point {point}");
     }
-    assert_eq!(periods(&book, 255, 1).1, 1024);
     // There is no place for a further period.
-    let mut book = book;
-    let further = told(1, 1, 0, FIRST, 0, 1);
+    let further = told(1, 1, 1, FIRST, 0, 1);
     assert_eq!(book.message(&further), Err(Question::TableFull));
 }
 
@@ -642,7 +641,7 @@ fn the_periods_read_are_those_of_the_messages_heard() {
     ];
     let prices = prices(&[21_000_000, 150_000_000, -30_000, 761_000]);
     let mut random = Random(13);
-    let mut told = BTreeMap::new();
+    let mut times = BTreeMap::new();
     for _ in 0..100 {
         let mut book = Book::open(MARCH, counts(4, 3, 4), &elements, &prices).unwrap();
         let mut heard = vec![Heard::default(); 4];
@@ -662,11 +661,17 @@ fn the_periods_read_are_those_of_the_messages_heard() {
                 let up_to = lengths[..=place].iter().sum::<u64>();
                 let beyond = lengths[place + 1..].iter().any(|count| *count > 0);
                 assert_eq!(read, up_to + u64::from(beyond));
-                *told.entry((read, beyond)).or_insert(0) += 1;
+                *times.entry((read, beyond)).or_insert(0) += 1;
             }
         }
     }
     // Searches that end at a period beyond and searches that find none, of many lengths.
-    assert!((1..=10).all(|read| told[&(read, true)] > 1000), "{told:?}");
-    assert!((1..=10).all(|read| told[&(read, false)] > 100), "{told:?}");
+    assert!(
+        (1..=10).all(|read| times[&(read, true)] > 1000),
+        "{times:?}"
+    );
+    assert!(
+        (1..=10).all(|read| times[&(read, false)] > 100),
+        "{times:?}"
+    );
 }

@@ -17,7 +17,6 @@ use Rattle.rules.specs.declared.LineAnswer.{LineAnswer}
 use Rattle.ledger.specs.declared.lines.Line.{Line}
 use Rattle.rules.specs.Sizes.{mostElements, mostLines, mostSuppliers}
 use Rattle.rules.specs.Lines.{Measure}
-use Rattle.rules.specs.Rows.{pairRows}
 use Rattle.rules.specs.World.{World, rowsOf, lineAt, lineCount, storedAt, stored}
 use Rattle.rules.specs.WellFormed.{lineRight, linesRight, linePlaces}
 use Rattle.rules.specs.Queries.{lineNumber, lineQuery, lineNamed, periodsNumber, periodsQuery, periodsRead}
@@ -107,7 +106,8 @@ pair-asked b o p e h =
 
 -- what it finds among the rows in use is the query's answer: they are in order
 pub periods-at : (b : Book) (o : Lists) (p e place count told : ℕ) → periodsNumber (worldIn b o) p e ≡ 0
-    → PairFound p e (take (b .periods) (o .links)) place count told → PeriodsAt (worldIn b o) p e place count told
+    → PairFound p e (take (b .periods) (o .links)) place count told
+    → PeriodsAt (worldIn b o) p e place count × (told ≡ periodsRead (worldIn b o) p e)
 unfolding periodsQuery periodsRead rowsOf
 periods-at b o p e place count told h f =
     let k = pair-asked b o p e h in
@@ -117,13 +117,14 @@ periods-at b o p e place count told h f =
     let h′ = f .within in
     let i : place + count ≤ b .periods = omega arith in
     let c : place + count - place ≡ count = omega arith in
-    record {
+    let at : PeriodsAt (worldIn b o) p e place count
+    = record {
       from = f .from ∙ place-sorted p e (k .1 .element) rows;
       many = rw h (f .many ∙ ap length part);
       rows = rw h ((rw c at (part-within place (place + count) (b .periods) (o .links) i)) ∙ f .part ∙ part);
       within = i;
-      read = rw h (f .read);
-    }
+    } in
+    (at, rw h (f .read))
 
 pub periods-refused : (w : World) (p e : ℕ) → periodsNumber w p e ≢ 0 → ([] ≡ periodsQuery w p e) × (0 ≡ periodsRead w p e)
 unfolding periodsQuery periodsRead

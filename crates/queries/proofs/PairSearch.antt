@@ -2,7 +2,7 @@
 -- nothing; and in rows that are in order what it hands back are the rows of the point and element.
 use Prim.Native.Nat.{ℕ, zero, suc, _+_, _-_, _≤_, _<_, zero-le}
 use mathlib.Core.Path.{_≡_, refl, sym, ap, _∙_}
-use mathlib.Core.Bool.{true, false, cond}
+use mathlib.Core.Bool.{true, false}
 use mathlib.Core.List.{List, [], _∷_, _++_}
 use lib.Dec.{ltb, eqb}
 use lib.ListN.{length, getD, take, drop, length-drop}
@@ -119,6 +119,19 @@ module _ (p e : ℕ) where
     unfolding searchedPart
     behind-part front = rw (behind-place front, behind-up front)
 
+    -- so two searches whose rows differ only there find the same
+    pub behind-same : (front : List ℕ) (a b c a′ b′ c′ : ℕ)
+        → let rows = front ++ (w ∷ behind) in
+        let others = front ++ (w ∷ others) in
+        PairFound p e rows a b c → PairFound p e others a′ b′ c′
+        → (a ≡ a′) × (b ≡ b′) × (c ≡ c′) × (take b (drop a rows) ≡ take b′ (drop a′ others))
+    behind-same front a b c a′ b′ c′ f g = (
+      f .from ∙ behind-place front ∙ sym (g .from),
+      f .many ∙ ap length (behind-part front) ∙ sym (g .many),
+      f .read ∙ behind-read front ∙ sym (g .read),
+      f .part ∙ behind-part front ∙ sym (g .part),
+    )
+
   -- ---- by words
 
   module _ (he : e < elementRoom) where
@@ -168,7 +181,8 @@ module _ (p e : ℕ) where
     -- ---- row by row
 
     rows-next : {ws : List ℕ} {place i : ℕ} (n : ℕ) → RowsRead p e ws place i → i < length ws
-        → getD ws i 0 < packPeriod p (e + 1) 0 0 0 → n ≤ 1 → pairPlace p e (getD ws i 0 ∷ []) ≡ n → RowsRead p e ws (place + n) (i + 1)
+        → getD ws i 0 < packPeriod p (e + 1) 0 0 0 → n ≤ 1 → pairPlace p e (getD ws i 0 ∷ []) ≡ n
+        → RowsRead p e ws (place + n) (i + 1)
     rows-next {ws = ws} {i = i} n r l h m k =
         let few = r .few in
         let from = r .from in

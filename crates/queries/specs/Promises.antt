@@ -9,7 +9,7 @@ use lib.ListN.{length, take, drop}
 use Rattle.rules.specs.declared.LineAnswer.{LineAnswer}
 use Rattle.rules.specs.World.{World, rowsOf, InBook}
 use Rattle.rules.specs.Opening.{openingAnswer}
-use Rattle.rules.specs.Queries.{lineNumber, lineQuery, lineGiven, ownLine, periodsQuery, periodsRead}
+use Rattle.rules.specs.Queries.{lineNumber, lineQuery, lineGiven, ownLine, periodsQuery}
 use Rattle.rules.specs.Answers.{lineResult}
 use Rattle.rules.specs.Fresh.{freshFacts}
 use Rattle.rules.specs.Claim.{Event, reached}
@@ -32,10 +32,9 @@ pub record LineAnswered (w : World) (supplier element : ℕ) (r : LineAnswer) : 
       → lineResult r ≡ lineGiven (w₀ .opening) (freshFacts (reached w₀ vs .fresh)) supplier element
 
 -- the part of the link table that holds a point and an element: behind the rows in use of earlier points and elements, as many rows as
--- there are; and how many rows were read to find it
-pub record PeriodsAt (w : World) (point element : ℕ) (place count told : ℕ) : Type 0 where
+-- there are
+pub record PeriodsAt (w : World) (point element : ℕ) (place count : ℕ) : Type 0 where
   pub from : place ≡ pairPlace point element (rowsOf (w .position .tables .links))
   pub many : count ≡ length (periodsQuery w point element)
   pub rows : take count (drop place (w .position .tables .links .words)) ≡ periodsQuery w point element
   pub within : place + count ≤ w .position .tables .links .used
-  pub read : told ≡ periodsRead w point element

@@ -124,7 +124,8 @@ pub fn periods_place(book: Book, links: &[u64], point: u64, element: u64) -> Par
     requires { ⌜ ((o : Lists) × periodsNumber (worldIn book (lendLinks (now links) o)) point element ≡ 0) ⌝ }
     ensures { λ r. ⌜ ((o : Lists) →
         let w = worldIn book (lendLinks (was links) o) in
-        periodsNumber w point element ≡ 0 → PeriodsAt w point element (r .place) (r .count) (r .read)) ⌝ }
+        periodsNumber w point element ≡ 0
+        → PeriodsAt w point element (r .place) (r .count) × (r .read ≡ periodsRead w point element)) ⌝ }
 {
     let used = book.periods as usize;
     search_pair(&links[..used], point, element)

@@ -118,7 +118,8 @@ module _ (w : World) (s e : ℕ) where
 -- ---- the periods
 
 -- refused, with nothing written but that nothing was read
-pub periods-refused-in : (w : World) (p e : ℕ) (r : ℕ) → r ≡ periodsNumber w p e → r ≢ 0 → (p₀ n₀ : ℕ) → PeriodsIn w p e r p₀ p₀ n₀ n₀ 0
+pub periods-refused-in : (w : World) (p e r : ℕ) → r ≡ periodsNumber w p e → r ≢ 0 → (p₀ n₀ : ℕ)
+    → PeriodsIn w p e r p₀ p₀ n₀ n₀ 0
 periods-refused-in w p e r h z p₀ n₀ = record {
   number = h;
   refused = λ _. (refl, refl);
@@ -127,8 +128,9 @@ periods-refused-in w p e r h z p₀ n₀ = record {
 }
 
 -- of a book that is not well formed
-pub periods-no-book : (w : World) (p e : ℕ) (r : ℕ) → r ≡ askBook w 0 → r ≢ 0 → (p₀ n₀ : ℕ) → PeriodsIn w p e r p₀ p₀ n₀ n₀ 0
-periods-no-book w p e r h z = periods-refused-in w p e r (h ∙ sym (unfold periodsNumber in book-refused w (λ x. z (h ∙ x)) _)) z
+pub periods-no-book : (w : World) (p e r : ℕ) → r ≡ askBook w 0 → r ≢ 0 → (p₀ n₀ : ℕ) → PeriodsIn w p e r p₀ p₀ n₀ n₀ 0
+unfolding periodsNumber
+periods-no-book w p e r h z = periods-refused-in w p e r (h ∙ sym (book-refused w (λ x. z (h ∙ x)) _)) z
 
 -- ---- the earliest day without a holder
 

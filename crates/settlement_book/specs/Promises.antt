@@ -47,7 +47,7 @@ pub record LineIn (w : World) (supplier element : ℕ) (r : ℕ) (lent out : Lis
 pub record PeriodsIn (w : World) (point element : ℕ) (r p₀ p n₀ n told : ℕ) : Type 0 where
   pub number : r ≡ periodsNumber w point element
   pub refused : r ≢ 0 → (p ≡ p₀) × (n ≡ n₀)
-  pub answered : r ≡ 0 → PeriodsAt w point element p n told
+  pub answered : r ≡ 0 → PeriodsAt w point element p n
   pub read : told ≡ periodsRead w point element
 
 -- the query for the earliest day without a holder: its number, and the day

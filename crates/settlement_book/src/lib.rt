@@ -1,7 +1,8 @@
 // Every form for any book and any tables, opening, message and queries: questions 2 to 5, then the form for a book that is well formed; and
 // the functions that the static library exports, over numbers and slices. A book is eleven numbers in the order of `rules::Book`, a
 // message nine in the order of `rules::Fields`; every table is lent. Where the numbers of a book, a message or a line are too many or too
-// few, the answer is question 3, before anything else is asked. A refusal changes nothing that was lent.
+// few, the answer is question 3, before anything else is asked. A refusal changes nothing that was lent, but that a query for periods then
+// tells that it read none.
 // A name that ends in `_within` is the form for a book that is well formed. Outside this file only the safe Rust wrapper calls these
 // (`library/src/book.rs`), which sees to what they ask; every other caller takes the forms that ask nothing.
 ghost use mathlib.Core.Path.{_≡_};

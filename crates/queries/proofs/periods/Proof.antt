@@ -7,8 +7,6 @@ use lib.ListN.{length}
 use Rattle.rules.specs.World.{World}
 use Rattle.rules.specs.Answers.{numberOf}
 use Rattle.rules.specs.Lent.{Lists, worldIn, lendLinks}
-use Rattle.rules.specs.Queries.{periodsNumber}
-use Rattle.queries.specs.Promises.{PeriodsAt}
 use Rattle.queries.proofs.Answered.{pair-asked, periods-refused}
 use borrow.Author.Needs.{needs}
 use Rattle.queries.proofs.periods.Statement.{statement}
@@ -36,7 +34,7 @@ inside c =
     let a = start .args in
     let known = start .pre (passed (yes-of c)) in
     let fits = pair-asked (a .book) (lendLinks (a .links .now) (known .0)) (a .point) (a .element) (known .1) .0 .fits in
-    let within = c .periods-place .ensures (known .0) (known .1) .within in
+    let within = c .periods-place .ensures (known .0) (known .1) .0 .within in
     omega arith
 
 number-requires : tie.Need-number-requires
@@ -75,7 +73,7 @@ returns c =
     let found : tie.After-periods-place = search in
     let r = found .periods-place .result in
     let many : r .place + r .count - r .place ≡ r .count = omega arith in (
-      λ o e. let at = found .periods-place .ensures o (sym e ∙ passed yes) in (rw many (at .rows), at .read),
+      λ o e. let at = found .periods-place .ensures o (sym e ∙ passed yes) in (rw many (at .0 .rows), at .1),
       λ n. absurd (n (passed yes)),
     )
 

@@ -1,4 +1,4 @@
--- `queries::periods_place` meets its contract: the search among the rows in use, which are in order in a book that has passed its questions.
+-- `queries::periods_place` meets its contract: it searches the rows in use, which are in order in a book that has passed its questions.
 use mathlib.Core.Path.{sym}
 use lib.Seq.{length-take-le}
 use Rattle.rules.specs.Lent.{lendLinks}

@@ -1,5 +1,5 @@
 -- The length of the book, the questions of the book, then the query of a well-formed one.
-use mathlib.Core.Path.{_≡_, refl, sym, ap, _∙_}
+use mathlib.Core.Path.{refl, sym, _∙_}
 use Rattle.rules.proofs.BookLaws.{book-whole}
 use Rattle.settlement_book.proofs.Answers.{periods-no-book, asked-as, lists-asked}
 use borrow.Author.Needs.{needs}

@@ -1,6 +1,5 @@
 -- Questions 7 and 8, then the place of the pair in the link table of a well-formed book.
 use mathlib.Core.Path.{_≡_, refl, sym, subst, _∙_}
-use Prim.Native.Nat.{ℕ}
 use Rattle.rules.specs.declared.Book.{Book}
 use Rattle.rules.specs.Lent.{Lists, worldIn, lendLinks}
 use Rattle.rules.specs.Queries.{periodsNumber}
@@ -71,7 +70,7 @@ returns-2 c o whole =
     let at = found .periods-place .ensures o k in
     subst (λ (b : Book). PeriodsIn (worldIn b (lent numbered o)) (a .point) (a .element) 0 (a .place .now) (part .place) (a .count .now)
     (part .count) (part .read)) (named-of numbered .book-of .ensures)
-    (record { number = sym k; refused = λ z. absurd (z refl); answered = λ _. at; read = at .read })
+    (record { number = sym k; refused = λ z. absurd (z refl); answered = λ _. at .0; read = at .1 })
 
 pub settlement-book-periods-within-spec : {M : Type 1} → statement M
 settlement-book-periods-within-spec =
