@@ -24,8 +24,8 @@ TABLES = [
     ("sent", "i64", "mut"),
 ]
 
-# the length of the local array: `mostLines * recordSize`
-NUMBERS = 6144
+# the length of the local array, as the proof names it
+NUMBERS = "numberPlaces"
 
 FILE = Path(__file__).resolve().parent.parent / "crates/listing/proofs/message/Proof.antt"
 
@@ -675,7 +675,7 @@ HEAD = """\
 -- contracts. What follows a call is a lemma of its own, with the call's results as variables. The local array stands as its elements in
 -- memory, and is room again at the end. Assumes nothing.
 use mathlib.Core.Path.{_≡_, refl, _∙_, ap, subst}
-use Prim.Native.Nat.{ℕ, _≤_, _<_}
+use Prim.Native.Nat.{ℕ, _*_, _≤_, _<_}
 use native.Mathlib.Omega.{arith}
 use mathlib.Core.List.{[], _∷_, List, _++_}
 use lib.ListN.{length, replicate, length-replicate, drop as drop-list}
@@ -721,6 +721,7 @@ use Rattle.rules.specs.declared.Book.{Book}
 use Rattle.rules.specs.declared.Fields.{Fields}
 use Rattle.rules.specs.declared.Record.{Record}
 use Rattle.rules.specs.Basics.{listTo}
+use Rattle.rules.specs.Sizes.{mostLines, recordSize}
 use Rattle.rules.specs.World.{World}
 use Rattle.rules.specs.Lent.{worldIn, given}
 use Rattle.rules.proofs.Book as B
@@ -771,6 +772,7 @@ def before():
     of = f"{HERE} (mem : Memory → SProp 𝓤) (run : Routine → Fun 𝓤) → Contract 𝓤"
     for c in CALLS.values():
         yield define("", c.contract, of, f"tripleOf 𝓤 H A {c.name}.signature ({c.name}.spec {MODEL})")
+    yield f"-- the local array has the numbers of as many records as a book has lines\nabbrev {NUMBERS} : ℕ\n{NUMBERS} = mostLines * recordSize\n"
     yield f"room-numbers : Room i64 {NUMBERS}\nroom-numbers = (lit< tt, lit< tt)\n"
     yield "below : {n m k : ℕ} → n ≤ m → m < k → n < k\nbelow few fits = omega arith\n"
 

@@ -12,7 +12,7 @@ use Rattle.file.specs.Field.{tagOf, lengthOf, marksIn, tagAllowed, eleme
 use Rattle.file.specs.Field.{fieldNamed, rightField, wholeField, fieldOf}
 use Rattle.file.specs.Element.{priceAt, pricesIn}
 use Rattle.file.specs.Decimal.{digitsTo, decimal, signedDecimal}
-use Rattle.file.specs.Lines.{bookLine, recordNames, recordLine, refusedLine}
+use Rattle.file.specs.Lines.{measuresThen, bookLine, recordNames, recordLine, refusedLine}
 use Rattle.file.specs.Encode.{numberBytes, encodeField, encodeMonth, complement, encodePrices, elementValue, encodeElement}
 use Rattle.file.specs.Program.{endedBy, onMessage, messagesFrom, describedAll, pricesAll, collected, lentFor, settleAnswer, openThen}
 use Rattle.file.specs.Program.{onElement, elementsFrom, onMonth, settled}
@@ -23,7 +23,7 @@ unfolding isLeap hasThirty daysOfMonth firstOf firstDay within allTo allIn listT
     marked lineCount withinLimits rowsFit question2 readingCount linePlaces openingSized tablesSized linesSized question3 priceLimit
     priceSize elementRight question4 ask openingAnswer opened followed bytesNumber numberIn twosComplement signed64 tagOf lengthOf
     marksIn tagAllowed elementLength lengthDue headerRight messageFields monthIn fieldNamed rightField wholeField fieldOf priceAt
-    pricesIn digitsTo decimal signedDecimal bookLine recordNames recordLine refusedLine numberBytes encodeField encodeMonth complement
+    pricesIn digitsTo decimal signedDecimal measuresThen bookLine recordNames recordLine refusedLine numberBytes encodeField encodeMonth complement
     encodePrices elementValue encodeElement endedBy onMessage messagesFrom describedAll pricesAll collected lentFor settleAnswer openThen
     onElement elementsFrom onMonth settled march elements cases sameBytes holds
 cases-hold = tt

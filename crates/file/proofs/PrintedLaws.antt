@@ -263,6 +263,14 @@ module _ (bytes : List ℕ) (c : Contents) (h : contentsOf bytes ≡ some c) (a 
             ap (total m s e) (records-line (c .opening) x)
             ∙ rw (to-here (c .opening) x) at (k .rounds (splitEvents (c .opening) x) (rw (same-fields (x .message)) z)
             (rw (lent-long (x .message), same-fields (x .message)) q) m s e inside);
+        lastBalance = λ x s e b.
+            let inside : InBook (lentFor (c .opening) .opening) s e = unfold lentFor in b in
+            let j = demand3 (lentFor (c .opening)) (opening-accepted (c .opening) a) (eventsOf (upTo x)) in
+            rw (records-line (c .opening) x) (j .lastBalance s e inside);
+        eachBalance = λ x r m.
+            let w = reachedBy (c .opening) (x .before) .world in
+            let here = rw (among-lines w (x .message) (length (x .before) + 1), ← event-records w (x .message)) at m in
+            rw (to-here (c .opening) x) at (k .eachBalance (splitEvents (c .opening) x) r here);
       }
 
   pub printed-records-add-up : (x : Split (c .messages .fields)) → x .message .kind ≡ 8

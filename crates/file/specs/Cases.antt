@@ -28,11 +28,20 @@ cases =
       given = bookLine 2024 3 31 8826;
       stated = 98 ∷ 111 ∷ 111 ∷ 107 ∷ 32 ∷ 50 ∷ 48 ∷ 50 ∷ 52 ∷ 32 ∷ 51 ∷ 32 ∷ 51 ∷ 49 ∷ 32 ∷ 56 ∷ 56 ∷ 50 ∷ 54 ∷ 10 ∷ [];
     }
-    -- `record 2 2 1 -500 -1 750000000`
+    -- `record 2 2 1 -500 -1 750000000 2500 1 250000000`
     ∷ record {
-      given = recordLine (record { kind = 2; supplier = 2; element = 1; quantity = negsuc 499; kroner = negsuc 0; billionths = 750000000 });
+      given = recordLine (record {
+        kind = 2;
+        supplier = 2;
+        element = 1;
+        quantity = negsuc 499;
+        kroner = negsuc 0;
+        billionths = 750000000;
+        balance = record { quantity = pos 2500; kroner = pos 1; billionths = 250000000 };
+      });
       stated = 114 ∷ 101 ∷ 99 ∷ 111 ∷ 114 ∷ 100 ∷ 32 ∷ 50 ∷ 32 ∷ 50 ∷ 32 ∷ 49 ∷ 32
-          ∷ 45 ∷ 53 ∷ 48 ∷ 48 ∷ 32 ∷ 45 ∷ 49 ∷ 32 ∷ 55 ∷ 53 ∷ 48 ∷ 48 ∷ 48 ∷ 48 ∷ 48 ∷ 48 ∷ 48 ∷ 10 ∷ [];
+          ∷ 45 ∷ 53 ∷ 48 ∷ 48 ∷ 32 ∷ 45 ∷ 49 ∷ 32 ∷ 55 ∷ 53 ∷ 48 ∷ 48 ∷ 48 ∷ 48 ∷ 48 ∷ 48 ∷ 48 ∷ 32
+          ∷ 50 ∷ 53 ∷ 48 ∷ 48 ∷ 32 ∷ 49 ∷ 32 ∷ 50 ∷ 53 ∷ 48 ∷ 48 ∷ 48 ∷ 48 ∷ 48 ∷ 48 ∷ 48 ∷ 10 ∷ [];
     }
     -- `refused 11 13`
     ∷ record { given = refusedLine 11 13; stated = 114 ∷ 101 ∷ 102 ∷ 117 ∷ 115 ∷ 101 ∷ 100 ∷ 32 ∷ 49 ∷ 49 ∷ 32 ∷ 49 ∷ 51 ∷ 10 ∷ [] }

@@ -36,14 +36,19 @@ unfoldable pub bookLine : (year month days first : ℕ) → List ℕ
 bookLine year month days first =
     bookWord ++ numberThen year space ++ numberThen month space ++ numberThen days space ++ numberThen first newline
 
--- "`record`: kind, supplier, element, quantity, kroner, billionths."
+-- a quantity and an amount with what stands behind them
+unfoldable pub measuresThen : (quantity kroner : ℤ) → (billionths after : ℕ) → List ℕ
+measuresThen quantity kroner billionths after = signedThen quantity space ++ signedThen kroner space ++ numberThen billionths after
+
+-- "`record`: kind, supplier, element, quantity, kroner, billionths."; "`settle` prints the three new numbers at the end of each record line"
 unfoldable pub recordNames : (kind supplier element : ℕ) → List ℕ
 recordNames kind supplier element = recordWord ++ numberThen kind space ++ numberThen supplier space ++ numberThen element space
 
 unfoldable pub recordLine : Record → List ℕ
 recordLine r =
     recordNames (r .kind) (r .supplier) (r .element)
-    ++ signedThen (r .quantity) space ++ signedThen (r .kroner) space ++ numberThen (r .billionths) newline
+    ++ measuresThen (r .quantity) (r .kroner) (r .billionths) space
+    ++ measuresThen (r .balance .quantity) (r .balance .kroner) (r .balance .billionths) newline
 
 -- "`refused`: message number from 1, question."
 unfoldable pub refusedLine : (message question : ℕ) → List ℕ
@@ -66,9 +71,13 @@ signedWidth = numberWidth + 1
 abbrev pub namesWidth : ℕ
 namesWidth = length recordWord + numberWidth + numberWidth + numberWidth
 
--- a record's line is the longest: 135
+-- a quantity, kroner and billionths
+abbrev pub measuresWidth : ℕ
+measuresWidth = signedWidth + signedWidth + numberWidth
+
+-- a record's line is the longest: 200
 abbrev pub longestLine : ℕ
-longestLine = namesWidth + signedWidth + signedWidth + numberWidth
+longestLine = namesWidth + measuresWidth + measuresWidth
 
 -- a text of at most `most` bytes was written from a place on, and `next` is the place behind it
 pub record Written (most : ℕ) (before after : List ℕ) (at next : ℕ) (text : List ℕ) : Type 0 where

@@ -2,9 +2,8 @@
 use Prim.Native.Nat.{ℕ, suc, _+_}
 use mathlib.Core.Path.{_≡_}
 use mathlib.Core.Bool.{Bool, cond}
-use mathlib.Core.List.{List, [], _∷_, _++_}
+use mathlib.Core.List.{List, [], _∷_, _++_, List·Memᴰ}
 use mathlib.Core.Option.{Option, none, some}
-use lib.IntN.{pos}
 use lib.ListN.{length, replicate}
 use lib.Dec.{eqb}
 use Rattle.rules.specs.declared.Fields.{Fields}
@@ -12,9 +11,9 @@ use Rattle.rules.specs.declared.Record.{Record}
 use Rattle.rules.specs.Lines.{Measure}
 use Rattle.rules.specs.World.{Opening, World, monthFirst, monthDays, InBook}
 use Rattle.rules.specs.Opening.{opened}
-use Rattle.rules.specs.Effects.{answer, step, recordsOf}
+use Rattle.rules.specs.Effects.{noRecord, answer, step, recordsOf}
 use Rattle.rules.specs.Queries.{lineQuery, named}
-use Rattle.rules.specs.Claim.{Event, History, reached, Split, upTo, total, Kept}
+use Rattle.rules.specs.Claim.{Event, History, reached, Split, upTo, total, balanceOf, LastBalance, Kept}
 use Rattle.file.specs.Lines.{bookLine, recordLine, refusedLine}
 use Rattle.file.specs.Program.{settleRecords, lentFor, settleAnswer, settled}
 use Rattle.file.specs.Contents.{Contents}
@@ -84,14 +83,7 @@ unfoldable pub eventOf : Fields → Event
 eventOf f =
     record {
       fields = f;
-      lent = replicate settleRecords (record {
-        kind = 0;
-        supplier = 0;
-        element = 0;
-        quantity = pos 0;
-        kroner = pos 0;
-        billionths = 0;
-      });
+      lent = replicate settleRecords noRecord;
     }
 
 unfoldable pub eventsOf : List Fields → List Event
@@ -122,3 +114,9 @@ pub record SettledAs (bytes : List ℕ) (o : Opening) (fs : List Fields) (broken
   pub rounds : (x : Split fs) → x .message .kind ≡ 8 → answer (reachedBy o (x .before) .world) (x .message) settleRecords ≡ 0
       → (m : Measure) (s e : ℕ) → InBook o s e
       → total m s e (recordsAmong (linesTo o (upTo x))) ≡ named m (lineQuery (reachedBy o (upTo x) .world) s e)
+  -- of the records printed so far, the last of each line carries their sum
+  pub lastBalance : (x : Split fs) (s e : ℕ) → InBook o s e → LastBalance s e (recordsAmong (linesTo o (upTo x)))
+  -- and each record that is printed for a message carries the line as it stands after it
+  pub eachBalance : (x : Split fs) (r : Record)
+      → List·Memᴰ r (recordsAmong (linesOf (reachedBy o (x .before) .world) (x .message) (length (x .before) + 1)))
+      → balanceOf r ≡ lineQuery (reachedBy o (upTo x) .world) (r .supplier) (r .element)

@@ -8,15 +8,15 @@ ghost use Prim.Native.Nat.{_+_, _≤_, _<_};
 ghost use lib.IntN.{natAbs};
 ghost use lib.ListN.{length};
 ghost use Rattle.file.specs.Decimal.{decimal};
-ghost use Rattle.file.specs.Lines.{numberThen, signedThen, bookLine, recordNames, recordLine, refusedLine};
-ghost use Rattle.file.specs.Lines.{numberWidth, signedWidth, namesWidth, longestLine, Written};
+ghost use Rattle.file.specs.Lines.{numberThen, signedThen, measuresThen, bookLine, recordNames, recordLine, refusedLine};
+ghost use Rattle.file.specs.Lines.{numberWidth, signedWidth, namesWidth, measuresWidth, longestLine, Written};
 ghost use Rattle.rules.specs.Lent.{left, was};
 
 // Room for a number of 64 bits and the byte behind it.
 pub const NUMBER_WIDTH: usize = 21;
 
 // Room for the longest line, which is a record's.
-pub const LONGEST_LINE: usize = 135;
+pub const LONGEST_LINE: usize = 200;
 
 // ---- bytes put into a list
 
@@ -108,7 +108,7 @@ pub fn put_book(out: &mut [u8], at: usize, year: u64, month: u64, days: u64, fir
     put_number_then(out, next, first, b'\n')
 }
 
-// The first half of a record's line: what it is about.
+// The first part of a record's line: what it is about.
 fn put_record_names(out: &mut [u8], at: usize, kind: u64, supplier: u64, element: u64) -> usize
     requires { ⌜ at + namesWidth ≤ length (now out) ⌝ }
     ensures { λ r. ⌜ Written namesWidth (was out) (left out) at r (recordNames kind supplier element) ⌝ }
@@ -119,15 +119,39 @@ fn put_record_names(out: &mut [u8], at: usize, kind: u64, supplier: u64, element
     put_number_then(out, next, element, b' ')
 }
 
-// `record`: kind, supplier, element, quantity, kroner, billionths.
+// A quantity, kroner and billionths, and the byte behind them.
+fn put_measures(
+    out: &mut [u8],
+    at: usize,
+    quantity: i64,
+    kroner: i64,
+    billionths: u64,
+    after: u8,
+) -> usize
+    requires { ⌜ at + measuresWidth ≤ length (now out) ⌝ }
+    ensures { λ r. ⌜ Written measuresWidth (was out) (left out) at r (measuresThen quantity kroner billionths after) ⌝ }
+{
+    let next = put_signed_then(out, at, quantity, b' ');
+    let next = put_signed_then(out, next, kroner, b' ');
+    put_number_then(out, next, billionths, after)
+}
+
+// `record`: kind, supplier, element, quantity, kroner, billionths, and the balance's quantity, kroner, billionths.
 pub fn put_record(out: &mut [u8], at: usize, r: Record) -> usize
     requires { ⌜ at + longestLine ≤ length (now out) ⌝ }
     ensures { λ n. ⌜ Written longestLine (was out) (left out) at n (recordLine r) ⌝ }
 {
+    let balance = r.balance;
     let next = put_record_names(out, at, r.kind, r.supplier, r.element);
-    let next = put_signed_then(out, next, r.quantity, b' ');
-    let next = put_signed_then(out, next, r.kroner, b' ');
-    put_number_then(out, next, r.billionths, b'\n')
+    let next = put_measures(out, next, r.quantity, r.kroner, r.billionths, b' ');
+    put_measures(
+        out,
+        next,
+        balance.quantity,
+        balance.kroner,
+        balance.billionths,
+        b'\n',
+    )
 }
 
 // `refused`: message number, question.

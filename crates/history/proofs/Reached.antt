@@ -1,24 +1,27 @@
 -- A run from an opened book is the run that demand 3 speaks of. By the function's promise and the proof of demand 3; the records are read
 -- back from the list number by number.
-use Prim.Native.Nat.{ℕ, _-_}
+use Prim.Native.Nat.{ℕ, zero, suc, _+_, _-_, _≤_, _<_}
 use mathlib.Core.Path.{_≡_, refl, sym, ap, ap₂, subst, _∙_}
 use mathlib.Core.Logic.{_≢_}
-use mathlib.Core.List.{List, [], _∷_, _++_, append-assoc}
+use mathlib.Core.List.{List, [], _∷_, _++_, append-assoc, List·Memᴰ, List·Memᴰ·head, List·Memᴰ·tail}
 use lib.IntN.{ℤ}
-use lib.ListN.{length, getD, drop}
-use lib.Seq.{getD-at}
+use lib.ListN.{length, getD, drop, length-append}
+use lib.Seq.{getD-at, getD-append-add}
+use native.Mathlib.Omega.{arith}
 use borrow.Author.Tests.{ne-eqb}
 use Rattle.rules.specs.declared.Book.{Book}
 use Rattle.rules.specs.declared.Fields.{Fields}
+use Rattle.rules.specs.declared.Record.{Record}
 use Rattle.rules.specs.Lines.{Measure}
 use Rattle.rules.specs.World.{World, InBook}
-use Rattle.rules.specs.Effects.{answer, step, recordsOf}
+use Rattle.rules.specs.Effects.{noRecord, answer, step, recordsOf}
 use Rattle.rules.specs.WellFormed.{question2, question3, question4}
 use Rattle.rules.specs.Opening.{openingAnswer, opened, afterOpening}
 use Rattle.rules.specs.Queries.{lineQuery, named}
-use Rattle.rules.specs.Claim.{Event, History, begin, Split, upTo, total, Holds}
-use Rattle.rules.proofs.Demand3.{demand3, advance-append, recordsFrom, records-behind}
-use Rattle.ledger.specs.RecordNumbers.{numbersAfter}
+use Rattle.rules.specs.Claim.{Event, History, advance, advanceAll, begin, Split, upTo, total, balanceOf, LastBalance, Holds}
+use Rattle.rules.proofs.Demand3.{demand3, advance-append, advance-snoc, recordsFrom, records-behind}
+use Rattle.rules.proofs.Ranges.{getD-listTo}
+use Rattle.ledger.specs.RecordNumbers.{numbersAfter, recordAt}
 use Rattle.ledger.proofs.RecordNumbers.{records-read}
 use Rattle.rules.specs.Lent.{Lists, worldIn}
 use Rattle.recording.specs.Opened.{namedBook, freshBook}
@@ -67,6 +70,11 @@ module _ (w : World) (room : ℕ) {fs : List Fields} (x : Split fs) where
 
 -- ---- demand 3 of the function's run
 
+member-at : (rs : List Record) (i : ℕ) → i < length rs → List·Memᴰ (getD rs i noRecord) rs
+member-at [] i h = absurd (omega arith)
+member-at (r ∷ rs) zero h = List·Memᴰ·head refl
+member-at (r ∷ rs) (suc i) h = List·Memᴰ·tail (member-at rs i (omega arith))
+
 module _ (w after : World) (fs : List Fields) (count : ℕ) (lent out : List ℤ) (table answered : List ℕ)
     (a : openingAnswer w ≡ 0) (g : Followed (opened w) after fs count lent out table answered) where
   read-back : recordsIn count out ≡ reachedBy w fs lent .records
@@ -102,6 +110,41 @@ module _ (w after : World) (fs : List Fields) (count : ℕ) (lent out : List ℤ
         ∙ ap (λ l. getD l (length (x .before)) 0) (sym (g .answers)) ∙ z in
         ap (total m s e) front-back ∙ rw to-here at (demand3 w a (eventsOf w fs lent) .rounds y k n m s e b)
 
+    last-at : (s e : ℕ) → InBook (w .opening) s e → LastBalance s e (recordsIn (length (reachedBy w (upTo x) lent .records)) out)
+    last-at s e b = rw front-back (demand3 w a (eventsOf w (upTo x) lent) .lastBalance s e b)
+
+    -- the records before the message, and those that it has written
+    abbrev earlier : List Record
+    earlier = reachedBy w (x .before) lent .records
+
+    abbrev here : List Record
+    here = recordsOf (reachedBy w (x .before) lent .world) (y .message .fields) (length (y .message .lent))
+
+    written-here : reachedBy w (upTo x) lent .records ≡ earlier ++ here
+    unfolding advance
+    written-here = ap (λ vs. advanceAll (begin (opened w)) vs .records) (sym to-here)
+        ∙ ap (λ (h : History). h .records) (advance-snoc (begin (opened w)) (y .before) (y .message))
+
+    module _ (i : ℕ) (low : length earlier ≤ i) (high : i < length (reachedBy w (upTo x) lent .records)) where
+      abbrev place : ℕ
+      place = i - length earlier
+
+      record-here : recordAt out i ≡ getD here place noRecord
+      record-here =
+          let n : i ≡ length earlier + place = omega arith in
+          sym (getD-listTo (recordAt out) (length (reachedBy w (upTo x) lent .records)) i noRecord high)
+          ∙ ap (λ (rs : List Record). getD rs i noRecord) (front-back ∙ written-here)
+          ∙ ap (λ (k : ℕ). getD (earlier ++ here) k noRecord) n
+          ∙ getD-append-add earlier here place noRecord
+
+      place-here : place < length here
+      place-here = let n = ap length written-here ∙ length-append earlier here in omega arith
+
+      each-at : balanceOf (recordAt out i)
+          ≡ lineQuery (reachedBy w (upTo x) lent .world) (recordAt out i .supplier) (recordAt out i .element)
+      each-at = rw record-here (rw to-here at (demand3 w a (eventsOf w fs lent) .eachBalance y (getD here place noRecord)
+          (member-at here place place-here)))
+
   from-opened : FromOpening w after fs count lent out answered
   from-opened =
       let k = demand3 w a (eventsOf w fs lent) in
@@ -113,6 +156,8 @@ module _ (w after : World) (fs : List Fields) (count : ℕ) (lent out : List ℤ
         sums = λ s e b. rw (g .world) (k .sums s e b);
         local = local-at;
         rounds = rounds-add;
+        lastBalance = last-at;
+        eachBalance = each-at;
       }
 
 -- For callers: a run whose promise starts from the book that an accepted opening leaves has demand 3, with the world and the records that

@@ -14,12 +14,12 @@ use Rattle.rules.specs.Answers.{numberOf}
 use Rattle.rules.specs.Basics.{listTo}
 use Rattle.rules.specs.Sizes.{recordSize}
 use Rattle.rules.specs.World.{World}
-use Rattle.rules.specs.Effects.{answer, step, recordsOf}
+use Rattle.rules.specs.Effects.{noRecord, answer, step, recordsOf}
 use Rattle.rules.specs.Claim.{Event, History, advance, advanceAll, begin}
 use Rattle.rules.proofs.Passed.{records-fit}
 use Rattle.rules.proofs.Demand3.{advance-snoc}
 use Rattle.rules.proofs.Ranges.{length-listTo}
-use Rattle.ledger.specs.RecordNumbers.{noRecord, numbersOf, numbersAfter, recordNumbers, recordAt}
+use Rattle.ledger.specs.RecordNumbers.{numbersOf, numbersAfter, recordNumbers, recordAt}
 use Rattle.ledger.proofs.RecordNumbers.{length-numbers, length-after, numbers-none, records-read}
 use Rattle.settlement.specs.declared.Reply.{Reply}
 use Rattle.settlement.specs.Replies.{roomIn, Replied}

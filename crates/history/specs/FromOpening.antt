@@ -1,5 +1,5 @@
 -- What a run from an opened book leaves: demand 3, of the book and the list of records as the function returns them.
-use Prim.Native.Nat.{ℕ}
+use Prim.Native.Nat.{ℕ, _≤_, _<_}
 use mathlib.Core.Path.{_≡_}
 use mathlib.Core.Logic.{_≢_}
 use mathlib.Core.List.{List}
@@ -12,7 +12,7 @@ use Rattle.rules.specs.World.{World, InBook}
 use Rattle.rules.specs.Opening.{openingAnswer, opened}
 use Rattle.rules.specs.Queries.{lineQuery, lineGiven, ownLine, named}
 use Rattle.rules.specs.Fresh.{freshFacts}
-use Rattle.rules.specs.Claim.{Event, History, reached, Split, upTo, total, Holds, Kept}
+use Rattle.rules.specs.Claim.{Event, History, reached, Split, upTo, total, balanceOf, LastBalance, Holds, Kept}
 use Rattle.rules.specs.Basics.{listTo}
 use Rattle.ledger.specs.RecordNumbers.{recordAt}
 use Rattle.settlement.specs.Replies.{roomIn}
@@ -50,6 +50,14 @@ pub record FromOpening (w after : World) (fs : List Fields) (count : ℕ) (lent 
       → (m : Measure) (s e : ℕ) → InBook (w .opening) s e
       → total m s e (recordsIn (length (reachedBy w (upTo x) lent .records)) out)
       ≡ named m (lineQuery (reachedBy w (upTo x) lent .world) s e)
+  -- of the records that stood in the list after a message, the last of each line carries their sum
+  pub lastBalance : (x : Split fs) (s e : ℕ) → InBook (w .opening) s e
+      → LastBalance s e (recordsIn (length (reachedBy w (upTo x) lent .records)) out)
+  -- and each that the message has written behind those before it carries the line as it then stood
+  pub eachBalance : (x : Split fs) (i : ℕ) → length (reachedBy w (x .before) lent .records) ≤ i
+      → i < length (reachedBy w (upTo x) lent .records)
+      → balanceOf (recordAt out i)
+      ≡ lineQuery (reachedBy w (upTo x) lent .world) (recordAt out i .supplier) (recordAt out i .element)
 
 -- what a function promises that opens a month in the world w, where no row is in use, and then runs the list: the rules' run and demand
 -- 3 where the opening is accepted, and everything as it was where it is refused

@@ -7,9 +7,9 @@ use lib.ListN.{length, take, drop, replicate}
 use Rattle.rules.specs.declared.Fields.{Fields}
 use Rattle.rules.specs.Basics.{listTo}
 use Rattle.rules.specs.World.{World}
-use Rattle.rules.specs.Effects.{answer, step, recordsOf}
+use Rattle.rules.specs.Effects.{noRecord, answer, step, recordsOf}
 use Rattle.rules.specs.Claim.{Event, History, advanceAll, begin}
-use Rattle.ledger.specs.RecordNumbers.{noRecord, numbersAfter}
+use Rattle.ledger.specs.RecordNumbers.{numbersAfter}
 use Rattle.settlement.specs.Replies.{roomIn}
 use Rattle.settlement_book.specs.Numbers.{fieldsSize, fieldsIn}
 

@@ -23,8 +23,8 @@ use Rattle.rules.specs.World.{World, lineCount, kronerOf, billionthsOf, storedA
 use Rattle.rules.specs.Lent.{Lists, worldIn, lendMoney}
 use Rattle.rules.specs.WellFormed.{linePlaces, lineRight, linesRight}
 use Rattle.rules.specs.Whole.{Whole}
-use Rattle.rules.specs.Effects.{supplierOf, elementOf, difference, unmoved, recordOf, recordFor, recordsTo, records, isRound, written}
-use Rattle.rules.specs.Effects.{sentAfter}
+use Rattle.rules.specs.Effects.{supplierOf, elementOf, difference, unmoved, balance, recordOf, recordFor, recordsTo, records, isRound}
+use Rattle.rules.specs.Effects.{written, sentAfter}
 use Rattle.rules.proofs.Tests.{cases, both}
 use Rattle.rules.proofs.Ranges.{within-low, within-high, all-at}
 use Rattle.rules.proofs.Parts.{lengths, formed}
@@ -119,8 +119,9 @@ sendable b ls ts h k l =
 
 -- ---- the records
 
-pub record-is : (b : Book) (ls ts : List ℤ) (k : ℕ) (r : Line) (x y : ℕ)
+pub record-is : (b : Book) (ls ts : List ℤ) (k : ℕ) (r l : Line) (x y u v : ℕ)
     → LineOf r (movedBy ls ts Measure.quantity (k * lineSize)) (movedBy ls ts Measure.amount (k * lineSize)) x y
+    → LineOf l (storedAt ls Measure.quantity (k * lineSize)) (storedAt ls Measure.amount (k * lineSize)) u v
     → record {
       kind = b .round;
       supplier = k / b .elements + 1;
@@ -128,9 +129,10 @@ pub record-is : (b : Book) (ls ts : List ℤ) (k : ℕ) (r : Line) (x y : ℕ)
       quantity = r .quantity;
       kroner = r .kroner;
       billionths = r .billionths;
+      balance = record { quantity = l .quantity; kroner = l .kroner; billionths = l .billionths };
     } ≡ lineRecord b ls ts k
 unfolding lineRecord
-record-is b ls ts k r x y g =
+record-is b ls ts k r l x y u v g h =
     λ i. record {
       kind = b .round;
       supplier = k / b .elements + 1;
@@ -138,6 +140,7 @@ record-is b ls ts k r x y g =
       quantity = g .quantity i;
       kroner = g .kroner i;
       billionths = g .billionths i;
+      balance = record { quantity = h .quantity i; kroner = h .kroner i; billionths = h .billionths i };
     }
 
 -- how many lines have moved, one line more at a time
@@ -190,7 +193,7 @@ module _ (b : Book) (ls ts : List ℤ) where
     world = worldIn b (lendMoney ls ts o)
 
     records-to : (k : ℕ) → k ≤ linesIn b → recordsTo world k ≡ lineRecords b ls ts k
-    unfolding recordsTo recordFor recordOf unmoved difference stored lineRecords lineRecord unmovedAt movedBy lineCount supplierOf elementOf
+    unfolding recordsTo recordFor recordOf balance unmoved difference stored lineRecords lineRecord unmovedAt movedBy lineCount supplierOf elementOf
     records-to zero l = refl
     records-to (suc k) l = rw (records-to k (omega arith), line-at (world .opening) k (unfold lineCount in omega arith))
 
@@ -269,7 +272,7 @@ module _ (ls ts : List ℤ) (e : length ls ≡ length ts) where
 pub list-more : (b : Book) (ls ts : List ℤ) (k n : ℕ) (lent out out′ : List ℤ) → n ≡ movedCount ls ts k
     → out ≡ numbersAfter (lineRecords b ls ts k) lent
     → out′ ≡ cond (unmovedAt ls ts (k * lineSize)) out (sets out (n * recordSize) (recordNumbers (lineRecord b ls ts k)))
-    → (unmovedAt ls ts (k * lineSize) ≡ false → n * recordSize + 5 < length lent)
+    → (unmovedAt ls ts (k * lineSize) ≡ false → (n + 1) * recordSize ≤ length lent)
     → out′ ≡ numbersAfter (lineRecords b ls ts (k + 1)) lent
 list-more b ls ts k n lent out out′ e p q h = cases (unmovedAt ls ts (k * lineSize))
     (λ t. q ∙ rw (t, p, records-more b ls ts k, t, append-nil))
@@ -278,7 +281,7 @@ list-more b ls ts k n lent out out′ e p q h = cases (unmovedAt ls ts (k * line
 
 -- a list has room for the record of a line that has moved
 pub list-room : (ls ts : List ℤ) (count k n room : ℕ) → k < count → n ≡ movedCount ls ts k
-    → movedCount ls ts count * recordSize ≤ room → unmovedAt ls ts (k * lineSize) ≡ false → n * recordSize + 5 < room
+    → movedCount ls ts count * recordSize ≤ room → unmovedAt ls ts (k * lineSize) ≡ false → (n + 1) * recordSize ≤ room
 list-room ls ts count k n room l e h u =
     let g = count-grows ls ts (k + 1) (count - (k + 1)) in
     let z : k + 1 + (count - (k + 1)) ≡ count = omega arith in
@@ -323,7 +326,7 @@ module _ (b : Book) (ls ts lent : List ℤ) (h : Settled b ls ts) (room : movedC
         }
 
     pub turn-room : (n : ℕ) → n ≡ movedCount ls ts k → unmovedAt ls (paste ts 0 ls (k * lineSize)) (k * lineSize) ≡ false
-        → n * recordSize + 5 < length (numbersAfter (lineRecords b ls ts k) lent)
+        → (n + 1) * recordSize ≤ length (numbersAfter (lineRecords b ls ts k) lent)
     turn-room n e u =
         rw (list-long k (omega arith)) (list-room ls ts (linesIn b) k n (length lent) l e room
         (sym (unmoved-past ls ts same-long k inside) ∙ u))

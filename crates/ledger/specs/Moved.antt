@@ -38,6 +38,11 @@ lineRecord b ls ts k =
       quantity = movedBy ls ts Measure.quantity (k * lineSize);
       kroner = kronerOf (movedBy ls ts Measure.amount (k * lineSize));
       billionths = billionthsOf (movedBy ls ts Measure.amount (k * lineSize));
+      balance = record {
+        quantity = storedAt ls Measure.quantity (k * lineSize);
+        kroner = kronerOf (storedAt ls Measure.amount (k * lineSize));
+        billionths = billionthsOf (storedAt ls Measure.amount (k * lineSize));
+      };
     }
 
 -- the records of those of the first n lines that have moved

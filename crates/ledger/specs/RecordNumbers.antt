@@ -1,6 +1,6 @@
--- Records as numbers: six a record, in the order of its fields, at the front of a lent list of numbers.
+-- Records as numbers: nine a record, in the order of its fields, at the front of a lent list of numbers.
 use mathlib.Core.List.{List, [], _∷_, _++_}
-use Prim.Native.Nat.{ℕ, _+_, _*_, _<_}
+use Prim.Native.Nat.{ℕ, _+_, _*_, _≤_, _<_}
 use lib.IntN.{ℤ, pos, natAbs}
 use lib.ListN.{length, getD, drop}
 use lib.Signed.{nonNeg}
@@ -8,9 +8,11 @@ use lib.Dec.{T}
 use Rattle.rules.specs.declared.Record.{Record}
 use Rattle.rules.specs.Sizes.{recordSize}
 
--- kind, supplier, element, quantity, kroner, billionths
+-- kind, supplier, element, quantity, kroner, billionths, and the balance's quantity, kroner, billionths
 unfoldable pub recordNumbers : Record → List ℤ
-recordNumbers r = pos (r .kind) ∷ pos (r .supplier) ∷ pos (r .element) ∷ r .quantity ∷ r .kroner ∷ pos (r .billionths) ∷ []
+recordNumbers r =
+    pos (r .kind) ∷ pos (r .supplier) ∷ pos (r .element) ∷ r .quantity ∷ r .kroner ∷ pos (r .billionths)
+    ∷ r .balance .quantity ∷ r .balance .kroner ∷ pos (r .balance .billionths) ∷ []
 
 unfoldable pub numbersOf : List Record → List ℤ
 numbersOf [] = []
@@ -30,19 +32,21 @@ recordAt ns i =
       quantity = getD ns (i * recordSize + 3) (pos 0);
       kroner = getD ns (i * recordSize + 4) (pos 0);
       billionths = natAbs (getD ns (i * recordSize + 5) (pos 0));
+      balance = record {
+        quantity = getD ns (i * recordSize + 6) (pos 0);
+        kroner = getD ns (i * recordSize + 7) (pos 0);
+        billionths = natAbs (getD ns (i * recordSize + 8) (pos 0));
+      };
     }
 
--- what stands in a list where no record does
-abbrev pub noRecord : Record
-noRecord = record { kind = 0; supplier = 0; element = 0; quantity = pos 0; kroner = pos 0; billionths = 0 }
-
--- a record stands there: kind, supplier, element and billionths are not below zero
+-- a record stands there: kind, supplier, element and the billionths of both amounts are not below zero
 pub record RecordPlaces (ns : List ℤ) (i : ℕ) : Type 0 where
-  pub inside : i * recordSize + 5 < length ns
+  pub inside : (i + 1) * recordSize ≤ length ns
   pub kind : T (nonNeg (getD ns (i * recordSize) (pos 0)))
   pub supplier : T (nonNeg (getD ns (i * recordSize + 1) (pos 0)))
   pub element : T (nonNeg (getD ns (i * recordSize + 2) (pos 0)))
   pub billionths : T (nonNeg (getD ns (i * recordSize + 5) (pos 0)))
+  pub balance : T (nonNeg (getD ns (i * recordSize + 8) (pos 0)))
 
 -- one more than the largest signed number of 64 bits
 abbrev pub signedRoom : ℕ
@@ -56,3 +60,6 @@ pub record SmallRecord (r : Record) : Type 0 where
   pub quantity : natAbs (r .quantity) < signedRoom
   pub kroner : natAbs (r .kroner) < signedRoom
   pub billionths : r .billionths < signedRoom
+  pub balance-quantity : natAbs (r .balance .quantity) < signedRoom
+  pub balance-kroner : natAbs (r .balance .kroner) < signedRoom
+  pub balance-billionths : r .balance .billionths < signedRoom

@@ -6,7 +6,9 @@ ghost use lib.ListN.{length, drop, replicate};
 ghost use Rattle.rules.specs.Basics.{listTo};
 ghost use Rattle.rules.specs.Sizes.{mostLines};
 ghost use Rattle.rules.specs.Lent.{was, left};
-ghost use Rattle.ledger.specs.RecordNumbers.{noRecord, recordAt, RecordPlaces};
+ghost use Rattle.rules.specs.Effects.{noRecord};
+ghost use Rattle.ledger.specs.RecordNumbers.{recordAt, RecordPlaces};
+use rules::Balance;
 use rules::MOST_LINES;
 use rules::RECORD_SIZE;
 use rules::Record;
@@ -24,6 +26,11 @@ pub fn record_at(numbers: &[i64], i: usize) -> Record
         quantity: numbers[at + 3],
         kroner: numbers[at + 4],
         billionths: numbers[at + 5] as u64,
+        balance: Balance {
+            quantity: numbers[at + 6],
+            kroner: numbers[at + 7],
+            billionths: numbers[at + 8] as u64,
+        },
     }
 }
 
@@ -52,6 +59,11 @@ pub fn listed(numbers: &[i64], count: usize) -> [Record; MOST_LINES]
         quantity: 0,
         kroner: 0,
         billionths: 0,
+        balance: Balance {
+            quantity: 0,
+            kroner: 0,
+            billionths: 0,
+        },
     }; MOST_LINES];
     put_list(&mut list, numbers, count);
     list

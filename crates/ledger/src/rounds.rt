@@ -14,6 +14,7 @@ ghost use Rattle.ledger.specs.Moved.{Comparable, Settled, Sendable, Line
 use crate::lines::Line;
 use crate::lines::line_at;
 use crate::lines::line_difference;
+use rules::Balance;
 use rules::Book;
 use rules::LAST_ROUND;
 use rules::LINE_SIZE;
@@ -73,7 +74,9 @@ fn record_of(book: Book, lines: &[i64], sent: &[i64], k: usize) -> Record
     requires { ⌜ Sendable book (now lines) (now sent) k ⌝ }
     ensures { λ r. ⌜ SmallRecord r × (r ≡ lineRecord book (was lines) (was sent) k) ⌝ }
 {
-    let moved = moved_by(lines, sent, k * LINE_SIZE);
+    let at = k * LINE_SIZE;
+    let moved = moved_by(lines, sent, at);
+    let line = line_at(lines, at);
     let number = k as u64;
     Record {
         kind: book.round,
@@ -82,12 +85,17 @@ fn record_of(book: Book, lines: &[i64], sent: &[i64], k: usize) -> Record
         quantity: moved.quantity,
         kroner: moved.kroner,
         billionths: moved.billionths,
+        balance: Balance {
+            quantity: line.quantity,
+            kroner: line.kroner,
+            billionths: line.billionths,
+        },
     }
 }
 
 // One record's numbers, from place `at` on.
 fn put_record(out: &mut [i64], at: usize, r: Record)
-    requires { ⌜ SmallRecord r × (at + 5 < length (now out)) ⌝ }
+    requires { ⌜ SmallRecord r × (at + recordSize ≤ length (now out)) ⌝ }
     ensures { λ _. ⌜ left out ≡ sets (was out) at (recordNumbers r) ⌝ }
 {
     let kind = r.kind as i64;
@@ -96,12 +104,19 @@ fn put_record(out: &mut [i64], at: usize, r: Record)
     let quantity = r.quantity;
     let kroner = r.kroner;
     let billionths = r.billionths as i64;
+    let balance = r.balance;
+    let balance_quantity = balance.quantity;
+    let balance_kroner = balance.kroner;
+    let balance_billionths = balance.billionths as i64;
     out[at] = kind;
     out[at + 1] = supplier;
     out[at + 2] = element;
     out[at + 3] = quantity;
     out[at + 4] = kroner;
     out[at + 5] = billionths;
+    out[at + 6] = balance_quantity;
+    out[at + 7] = balance_kroner;
+    out[at + 8] = balance_billionths;
 }
 
 // ---- a round
@@ -127,7 +142,7 @@ fn send_line(
 ) -> usize
     requires { ⌜ Sendable book (now lines) (now sent) k ⌝ }
     requires { ⌜ (n ≤ mostLines)
-        × (unmovedAt (now lines) (now sent) (k * lineSize) ≡ false → n * recordSize + 5 < length (now records)) ⌝ }
+        × (unmovedAt (now lines) (now sent) (k * lineSize) ≡ false → (n + 1) * recordSize ≤ length (now records)) ⌝ }
     ensures { λ r. ⌜ LineSent book (was lines) (was sent) (left sent) k n r (was records) (left records) ⌝ }
 {
     let at = k * LINE_SIZE;

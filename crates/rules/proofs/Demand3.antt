@@ -1,9 +1,10 @@
 -- Demand 3, whole. What holds at an opening and is kept by every message: the book is whole, its tables say what fresh settlement says, its
--- lines are what the rules give from them, and the records add up to what was sent. The claim's parts follow from that.
+-- lines are what the rules give from them, the records add up to what was sent, and the last record of a line carries it. The claim's parts
+-- follow from that.
 use mathlib.Core.Path.{_≡_, refl, sym, ap, ap₂, _∙_, subst}
 use Prim.Native.Nat.{ℕ, suc, _+_, _≤_, _<_}
-use mathlib.Core.Bool.{Bool, true, false, _&&_}
-use mathlib.Core.List.{List, [], _∷_, _++_, append-nil, append-assoc}
+use mathlib.Core.Bool.{Bool, true, false, _&&_, false≢true}
+use mathlib.Core.List.{List, [], _∷_, _++_, append-nil, append-assoc, List·Memᴰ, List·Memᴰ·not-nil}
 use mathlib.Core.Option.{Option, none, some}
 use lib.IntN.{natAbs}
 use lib.ListN.{length}
@@ -14,7 +15,7 @@ use Rattle.integers.specs.Sums.{sumTo}
 use Rattle.integers.proofs.Sums.{sum-cong}
 use Rattle.rules.specs.Sizes.{holderSize}
 use Rattle.rules.specs.declared.Body.{Body}
-use Rattle.rules.specs.declared.Body.the-variants.{Round}
+use Rattle.rules.specs.declared.Body.the-variants.{Link, Stop, Quantity, Holder, State, Reading, Block, Round}
 use Rattle.rules.specs.declared.Message.{Message}
 use Rattle.rules.specs.declared.Record.{Record}
 use Rattle.rules.specs.Lines.{Measure, owedByHolder, line}
@@ -28,14 +29,15 @@ use Rattle.rules.specs.Effects.{linesAfter, posted, question17, answer, 
 use Rattle.rules.specs.Opening.{openingAnswer, opened}
 use Rattle.rules.specs.Queries.{lineQuery, lineNamed, lineGiven, ownLine, named}
 use Rattle.rules.specs.Fresh.{Fresh, heard, heardBody, hear, freshFacts}
-use Rattle.rules.specs.Claim.{Event, History, advance, advanceAll, begin, reached, total, Holds, reachedLimit, Kept, Demand3}
+use Rattle.rules.specs.Claim.{Event, History, advance, advanceAll, begin, reached, total, balanceOf, lastRecord, LastBalance, Holds}
+use Rattle.rules.specs.Claim.{reachedLimit, Kept, Demand3}
 use Rattle.rules.proofs.Tests.{cases, both}
 use Rattle.rules.proofs.Ranges.{all-at, latest-high}
 use Rattle.rules.proofs.ValuesRight.{recorded-high}
 use Rattle.rules.proofs.LineLaws.{line-cong, line-but, pointLine-none, lines-total}
 use Rattle.rules.proofs.Bounds.{line-small}
 use Rattle.rules.proofs.Stored.{stored-lines, lines-right}
-use Rattle.rules.proofs.Rounds.{total-round}
+use Rattle.rules.proofs.Rounds.{total-round, storedLine, last-round, each-balance}
 use Rattle.rules.specs.Whole.{Limits, TablesRight, Whole}
 use Rattle.rules.proofs.Parts.{limits, table-each, tables-parts}
 use Rattle.rules.proofs.Passed.{about, round-body, behind, refused-17, taken}
@@ -97,6 +99,8 @@ record Inv (o : Opening) (h : History) : Type 0 where
   lines : linesOfRules (h .world)
   sent : (m : Measure) (s e : ℕ) → InBook (h .world .opening) s e
       → total m s e (h .records) ≡ stored (h .world .opening) (h .world .sent .totals) m s e
+  balance : (s e : ℕ) → InBook (h .world .opening) s e → (r : Record) → lastRecord s e none (h .records) ≡ some r
+      → balanceOf r ≡ storedLine (h .world .opening) (h .world .sent .totals) s e
 
 -- the rules' line from the tables is fresh settlement's
 line-fresh : (o : Opening) (t : Tables) (f : Fresh) → Agree o t f → (m : Measure) (s e : ℕ)
@@ -104,8 +108,11 @@ line-fresh : (o : Opening) (t : Tables) (f : Fresh) → Agree o t f → (m : Mea
 unfolding termsOf
 line-fresh o t f a m s e = line-cong (termsOf o) (factsOf o t) (freshFacts f) m s e (λ p k. same-agree o t f a p k)
 
+none-some : (r : Record) → _≡_ {A = Option Record} none (some r) → ⊥
+none-some r l = let z : _≡_ {A = ℕ} 0 1 = cc in omega arith
+
 inv-begin : (w : World) → openingAnswer w ≡ 0 → Inv (w .opening) (begin (opened w))
-unfolding begin opened total
+unfolding begin opened total lastRecord
 inv-begin w e = record {
   opening = refl;
   whole = begin-whole w (passed w e);
@@ -114,6 +121,7 @@ inv-begin w e = record {
       (line-fresh (w .opening) (opened w .position .tables) _ (begin-agree w) m s x
       ∙ line-nothing (termsOf (w .opening)) m s x (b .someone));
   sent = λ m s x b. sym (begin-sent w m s x);
+  balance = λ s x b r l. absurd (none-some r l);
 }
 
 -- a line after a message is what the rules give then
@@ -137,6 +145,15 @@ sent-posted w b xs m s e k h = cases (isRound b)
     (λ c. rw c (total-round w xs m s e k h))
     (λ c. rw (c, append-nil xs) h)
 
+balance-posted : (w : World) (b : Body) (xs : List Record) (s e : ℕ) → InBook (w .opening) s e
+    → ((r : Record) → lastRecord s e none xs ≡ some r → balanceOf r ≡ storedLine (w .opening) (w .sent .totals) s e)
+    → (r : Record) → lastRecord s e none (xs ++ written w b) ≡ some r
+    → balanceOf r ≡ storedLine (w .opening) (sentAfter w b .totals) s e
+unfolding written sentAfter
+balance-posted w b xs s e k h = cases (isRound b)
+    (λ c. rw c (last-round w xs s e k h))
+    (λ c. rw (c, append-nil xs) h)
+
 inv-after : (o : Opening) (h : History) → Inv o h → (v : Event) (b : Body) → accepted (h .world) (v .fields) (length (v .lent)) ≡ some b
     → Inv o (after h (some b))
 unfolding after stepBy heardBody writtenBy posted tablesAfter
@@ -148,6 +165,7 @@ inv-after o h i v b e =
       agree = agree-told (h .world .opening) (h .world .position .tables) (h .fresh) b (k .ready) (i .agree);
       lines = lines-posted (h .world) b (i .lines);
       sent = λ m s x c. sent-posted (h .world) b (h .records) m s x c (i .sent m s x c);
+      balance = λ s x c. balance-posted (h .world) b (h .records) s x c (i .balance s x c);
     }
 
 inv-advance : (o : Opening) (h : History) → Inv o h → (v : Event) → Inv o (advance h v)
@@ -306,6 +324,50 @@ rounds-of : (h : History) (o : Opening) → Inv o h → (v : Event) → accepted
     → total m s e (advance h v .records) ≡ named m (lineQuery (advance h v .world) s e)
 rounds-of h o i v c m s e b = rw (advance-is h v, c) (round-total h o i (inv-after o h i v Round c) m s e b)
 
+-- the last balance of a line is what was sent, and so the sum of the records
+balance-of : (h : History) (o : Opening) → Inv o h → (s e : ℕ) → InBook (h .world .opening) s e → LastBalance s e (h .records)
+balance-of h o i s e b r l =
+    i .balance s e b r l ∙ ap₂ lineNamed (sym (i .sent Measure.quantity s e b)) (sym (i .sent Measure.amount s e b))
+
+-- a round moves no line, so what its records carry is the line after it
+round-each : (h : History) (o : Opening) → Inv o h → Inv o (after h (some Round)) → (r : Record) → List·Memᴰ r (records (h .world))
+    → balanceOf r ≡ lineQuery (after h (some Round) .world) (r .supplier) (r .element)
+unfolding after stepBy posted tablesAfter told
+round-each h o i j r m =
+    let b = each-balance (h .world) r m in
+    let s = r .supplier in
+    let e = r .element in
+    b .1 ∙ ap₂ lineNamed (i .lines Measure.quantity s e (b .0) ∙ sym (j .lines Measure.quantity s e (b .0)))
+    (i .lines Measure.amount s e (b .0) ∙ sym (j .lines Measure.amount s e (b .0)))
+    ∙ sym (query-stored (after h (some Round) .world) (j .whole) s e (b .0))
+
+is-round : (b : Body) → isRound b ≡ true → b ≡ Round
+unfolding isRound
+is-round (Link p e d q) h = absurd (false≢true h)
+is-round (Stop p e d) h = absurd (false≢true h)
+is-round (Quantity p e d q) h = absurd (false≢true h)
+is-round (Holder p d v) h = absurd (false≢true h)
+is-round (State p d v) h = absurd (false≢true h)
+is-round (Reading p d v n) h = absurd (false≢true h)
+is-round (Block p v) h = absurd (false≢true h)
+is-round Round h = refl
+
+-- a message that writes records is a round
+round-written : (w : World) (x : Option Body) (r : Record) → List·Memᴰ r (writtenBy w x) → x ≡ some Round
+unfolding writtenBy written
+round-written w none r m = absurd (List·Memᴰ·not-nil m)
+round-written w (some b) r m = cases (isRound b)
+    (λ t. ap some (is-round b t))
+    (λ t. absurd (List·Memᴰ·not-nil (rw t at m)))
+
+each-of : (h : History) (o : Opening) → Inv o h → (v : Event) (r : Record)
+    → List·Memᴰ r (recordsOf (h .world) (v .fields) (length (v .lent)))
+    → balanceOf r ≡ lineQuery (advance h v .world) (r .supplier) (r .element)
+unfolding recordsOf writtenBy written isRound
+each-of h o i v r m =
+    let c = round-written (h .world) (accepted (h .world) (v .fields) (length (v .lent))) r m in
+    rw (advance-is h v, c) (round-each h o i (inv-after o h i v Round c) r (rw c at m))
+
 -- ---- demand 3
 
 module _ (w : World) (a : openingAnswer w ≡ 0) (vs : List Event) where
@@ -336,6 +398,10 @@ module _ (w : World) (a : openingAnswer w ≡ 0) (vs : List Event) where
         → total m s e (reached w (vs ++ (v ∷ [])) .records) ≡ named m (lineQuery (reached w (vs ++ (v ∷ [])) .world) s e))
         (i .opening) (λ m s e b. rw (snoc v) (rounds-of x (w .opening) i v (round-accepted (x .world) v k q) m s e b))
 
+    each-next : (r : Record) → List·Memᴰ r (recordsOf (x .world) (v .fields) (length (v .lent)))
+        → balanceOf r ≡ lineQuery (reached w (vs ++ (v ∷ [])) .world) (r .supplier) (r .element)
+    each-next r m = rw (snoc v) (each-of x (w .opening) i v r m)
+
     full-next : (b : Message) → understood (w .opening .suppliers) (v .fields) ≡ some b
         → answer (x .world) (v .fields) (length (v .lent)) ≡ 17 → rowsFit (tablesAfter (x .world) (b .body)) ≡ false
     full-next = subst (λ (o : Opening). (b : Message) → understood (o .suppliers) (v .fields) ≡ some b
@@ -354,6 +420,8 @@ module _ (w : World) (a : openingAnswer w ≡ 0) (vs : List Event) where
         sums = λ s e b. query-own h (w .opening) j s e (subst (λ o. InBook o s e) (sym (j .opening)) b);
         local = λ y. local-next w a (y .before) (y .message);
         rounds = λ y. rounds-next w a (y .before) (y .message);
+        lastBalance = subst (λ o. (s e : ℕ) → InBook o s e → LastBalance s e (h .records)) (j .opening) (balance-of h (w .opening) j);
+        eachBalance = λ y. each-next w a (y .before) (y .message);
         totals = subst (λ (o : Opening). (m : Measure) (e : ℕ) → e < o .elements
             → sumTo (λ s. named m (lineQuery (h .world) (suc s) e)) (o .suppliers)
             ≡ sumTo (λ p. sumTo (λ d. owedByHolder (termsOf o) (freshFacts (h .fresh)) m p e (monthFirst o + d)) (monthDays o)) (o .points))

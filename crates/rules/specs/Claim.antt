@@ -1,9 +1,9 @@
 -- Demand 3, as one claim about every opening and every list of messages.
 use mathlib.Core.Path.{_≡_}
 use Prim.Native.Nat.{ℕ, suc, _+_, _≤_, _<_}
-use mathlib.Core.Bool.{false, _&&_, cond}
-use mathlib.Core.List.{List, [], _∷_, _++_}
-use mathlib.Core.Option.{some}
+use mathlib.Core.Bool.{Bool, false, _&&_, cond}
+use mathlib.Core.List.{List, [], _∷_, _++_, List·Memᴰ}
+use mathlib.Core.Option.{Option, none, some}
 use lib.IntN.{ℤ, pos, natAbs, _+ℤ_}
 use lib.ListN.{length}
 use lib.Dec.{eqb}
@@ -18,7 +18,7 @@ use Rattle.rules.specs.Whole.{Whole}
 use Rattle.rules.specs.Messages.{understood}
 use Rattle.rules.specs.Effects.{tablesAfter, answer, step, recordsOf}
 use Rattle.rules.specs.Opening.{openingAnswer, opened}
-use Rattle.rules.specs.Queries.{lineQuery, lineGiven, ownLine, named}
+use Rattle.rules.specs.Queries.{LineResult, lineQuery, lineNamed, lineGiven, ownLine, named}
 use Rattle.rules.specs.Fresh.{Fresh, nothing, hear, freshFacts}
 
 -- a message as it came, and the list of records that was lent with it
@@ -63,6 +63,10 @@ pub record Split {A : Type 0} (list : List A) : Type 0 where
 abbrev pub upTo : {A : Type 0} {list : List A} → Split list → List A
 upTo x = x .before ++ (x .message ∷ [])
 
+-- is the record of the supplier's line under the element
+abbrev pub isOf : (supplier element : ℕ) → Record → Bool
+isOf s e r = eqb (r .supplier) s && eqb (r .element) e
+
 -- what the records say of one supplier and element, in one measure
 unfoldable pub moves : Measure → Record → ℤ
 moves Measure.quantity r = r .quantity
@@ -70,7 +74,25 @@ moves Measure.amount r = amountOf (r .kroner) (pos (r .billionths))
 
 unfoldable pub total : Measure → (supplier element : ℕ) → List Record → ℤ
 total m s e [] = pos 0
-total m s e (r ∷ rs) = cond (eqb (r .supplier) s && eqb (r .element) e) (moves m r) (pos 0) +ℤ total m s e rs
+total m s e (r ∷ rs) = cond (isOf s e r) (moves m r) (pos 0) +ℤ total m s e rs
+
+-- both sums, in the form of the line query's answer
+abbrev pub totalLine : (supplier element : ℕ) → List Record → LineResult
+totalLine s e rs = lineNamed (total Measure.quantity s e rs) (total Measure.amount s e rs)
+
+-- the balance that a record carries, in the same form
+unfoldable pub balanceOf : Record → LineResult
+balanceOf r =
+    record { number = 0; quantity = r .balance .quantity; kroner = r .balance .kroner; billionths = r .balance .billionths }
+
+-- the last record of a line, or the one that was found before these
+unfoldable pub lastRecord : (supplier element : ℕ) → (found : Option Record) → List Record → Option Record
+lastRecord s e found [] = found
+lastRecord s e found (r ∷ rs) = lastRecord s e (cond (isOf s e r) (some r) found) rs
+
+-- "for a line with records, the last balance equals their sum"
+abbrev pub LastBalance : (supplier element : ℕ) → List Record → Type 0
+LastBalance s e rs = (r : Record) → lastRecord s e none rs ≡ some r → balanceOf r ≡ totalLine s e rs
 
 -- the supplier holds the point on some day of the month; "holders fresh settlement's"
 pub record Holds (o : Opening) (f : Fresh) (s p : ℕ) : Type 0 where
@@ -103,6 +125,12 @@ pub record Kept (w : World) (vs : List Event) : Type 0 where
       → answer (reached w (x .before) .world) (x .message .fields) (length (x .message .lent)) ≡ 0
       → (m : Measure) (s e : ℕ) → InBook (w .opening) s e
       → total m s e (reached w (upTo x) .records) ≡ named m (lineQuery (reached w (upTo x) .world) s e)
+  -- request 7: "for a line with records, the last balance equals their sum"
+  pub lastBalance : (s e : ℕ) → InBook (w .opening) s e → LastBalance s e (reached w vs .records)
+  -- "and the line at that round": each record that a message writes carries the line query's answer after it
+  pub eachBalance : (x : Split vs) (r : Record)
+      → List·Memᴰ r (recordsOf (reached w (x .before) .world) (x .message .fields) (length (x .message .lent)))
+      → balanceOf r ≡ lineQuery (reached w (upTo x) .world) (r .supplier) (r .element)
   -- "an element's lines over all suppliers add up to what is owed for it point by point, by the same settlement, on the month's days with a
   -- holder"
   pub totals : (m : Measure) (e : ℕ) → e < w .opening .elements

@@ -10,6 +10,7 @@ use Rattle.rules.specs.declared.Fields.{Fields}
 use Rattle.rules.specs.declared.Body.{Body}
 use Rattle.rules.specs.declared.Body.the-variants.{Link, Stop, Quantity, Holder, State, Reading, Block, Round}
 use Rattle.rules.specs.declared.Message.{Message}
+use Rattle.rules.specs.declared.Balance.{Balance}
 use Rattle.rules.specs.declared.Record.{Record}
 use Rattle.rules.specs.Basics.{listTo}
 use Rattle.rules.specs.Rows.{packPeriod, nextStart, insertRow, stopRows, splitRows, packValue, recordRow}
@@ -114,7 +115,17 @@ difference w m s e = stored (w .opening) (w .position .lines) m s e -ℤ stored 
 unfoldable pub unmoved : World → (supplier element : ℕ) → Bool
 unmoved w s e = eqb (natAbs (difference w Measure.quantity s e)) 0 && eqb (natAbs (difference w Measure.amount s e)) 0
 
--- "one record with kind (1 fixing, 2 refixing, 3 any later), supplier, element and both differences"
+-- what a line stands at; a round moves no line, so this is "the line's quantity and amount after it"
+unfoldable pub balance : World → (supplier element : ℕ) → Balance
+balance w s e =
+    record {
+      quantity = stored (w .opening) (w .position .lines) Measure.quantity s e;
+      kroner = kronerOf (stored (w .opening) (w .position .lines) Measure.amount s e);
+      billionths = billionthsOf (stored (w .opening) (w .position .lines) Measure.amount s e);
+    }
+
+-- "one record with kind (1 fixing, 2 refixing, 3 any later), supplier, element and both differences"; "Each record shall also carry the
+-- line's quantity and amount after it."
 unfoldable pub recordOf : World → (supplier element : ℕ) → Record
 recordOf w s e =
     record {
@@ -124,6 +135,20 @@ recordOf w s e =
       quantity = difference w Measure.quantity s e;
       kroner = kronerOf (difference w Measure.amount s e);
       billionths = billionthsOf (difference w Measure.amount s e);
+      balance = balance w s e;
+    }
+
+-- what stands in a list where no record does
+abbrev pub noRecord : Record
+noRecord =
+    record {
+      kind = 0;
+      supplier = 0;
+      element = 0;
+      quantity = pos 0;
+      kroner = pos 0;
+      billionths = 0;
+      balance = record { quantity = pos 0; kroner = pos 0; billionths = 0 };
     }
 
 unfoldable pub recordFor : World → (supplier element : ℕ) → List Record

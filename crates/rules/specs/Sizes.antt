@@ -45,9 +45,9 @@ lineSize = 3
 abbrev pub mostLines : ℕ
 mostLines = 1024
 
--- a record is a kind, a supplier, an element, a quantity, kroner and billionths
+-- a record is a kind, a supplier, an element, a quantity, kroner and billionths, and the line's quantity, kroner and billionths after it
 abbrev pub recordSize : ℕ
-recordSize = 6
+recordSize = 9
 
 -- "up to 9,999,999,999 in size per month or per fee, up to 9,999,999 per kWh"
 abbrev pub mostPrice : ℕ

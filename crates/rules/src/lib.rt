@@ -30,8 +30,8 @@ pub const HOUR_PLACES: usize = 24;
 // Numbers a line: quantity, kroner, billionths.
 pub const LINE_SIZE: usize = 3;
 
-// Numbers a record: kind, supplier, element, quantity, kroner, billionths.
-pub const RECORD_SIZE: usize = 6;
+// Numbers a record: kind, supplier, element, the three by which the line has moved, and its three after the round.
+pub const RECORD_SIZE: usize = 9;
 
 // The numbers of as many records as a book has lines.
 pub const RECORD_NUMBERS: usize = MOST_LINES * RECORD_SIZE;
@@ -206,7 +206,14 @@ pub struct Message {
     pub body: Body,
 }
 
-// One record of a round: its kind, the line, and how far the line has moved since the last round.
+// What a line stands at.
+pub struct Balance {
+    pub quantity: i64,
+    pub kroner: i64,
+    pub billionths: u64,
+}
+
+// One record of a round: its kind, the line, how far the line has moved since the last round, and what it stands at after this one.
 pub struct Record {
     pub kind: u64,
     pub supplier: u64,
@@ -214,6 +221,7 @@ pub struct Record {
     pub quantity: i64,
     pub kroner: i64,
     pub billionths: u64,
+    pub balance: Balance,
 }
 
 // Accepted, or the question of document 01 that says no.

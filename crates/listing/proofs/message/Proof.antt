@@ -3,7 +3,7 @@
 -- contracts. What follows a call is a lemma of its own, with the call's results as variables. The local array stands as its elements in
 -- memory, and is room again at the end. Assumes nothing.
 use mathlib.Core.Path.{_≡_, refl, _∙_, ap, subst}
-use Prim.Native.Nat.{ℕ, _≤_, _<_}
+use Prim.Native.Nat.{ℕ, _*_, _≤_, _<_}
 use native.Mathlib.Omega.{arith}
 use mathlib.Core.List.{[], _∷_, List, _++_}
 use lib.ListN.{length, replicate, length-replicate, drop as drop-list}
@@ -49,6 +49,7 @@ use Rattle.rules.specs.declared.Book.{Book}
 use Rattle.rules.specs.declared.Fields.{Fields}
 use Rattle.rules.specs.declared.Record.{Record}
 use Rattle.rules.specs.Basics.{listTo}
+use Rattle.rules.specs.Sizes.{mostLines, recordSize}
 use Rattle.rules.specs.World.{World}
 use Rattle.rules.specs.Lent.{worldIn, given}
 use Rattle.rules.proofs.Book as B
@@ -97,7 +98,11 @@ C-message-numbers 𝓤 H A mem run = tripleOf 𝓤 H A message-numbers.signature
 abbrev C-put-list : {M : Type 1} (𝓤 : URA M) (H : Heap 𝓤) (A : Atoms 𝓤) (mem : Memory → SProp 𝓤) (run : Routine → Fun 𝓤) → Contract 𝓤
 C-put-list 𝓤 H A mem run = tripleOf 𝓤 H A put-list.signature (put-list.spec 𝓤 H A mem run)
 
-room-numbers : Room i64 6144
+-- the local array has the numbers of as many records as a book has lines
+abbrev numberPlaces : ℕ
+numberPlaces = mostLines * recordSize
+
+room-numbers : Room i64 numberPlaces
 room-numbers = (lit< tt, lit< tt)
 
 below : {n m k : ℕ} → n ≤ m → m < k → n < k
@@ -153,25 +158,25 @@ module _ {M : Type 1} (𝓤 : URA M) (H : Heap 𝓤) (A : Atoms 𝓤) (W : Given
       E = (Y′.mir, l0) ∷ (B′.mir, l1) ∷ (slice-at (named 0) imm u8, l2) ∷ (slice-at (named 1) imm i64, l3)
           ∷ (slice-at (named 2) mut u64, l4) ∷ (slice-at (named 3) mut u64, l5) ∷ (slice-at (named 4) mut u64, l6)
           ∷ (slice-at (named 5) mut u32, l7) ∷ (slice-at (named 6) mut u8, l8) ∷ (slice-at (named 7) mut i64, l9)
-          ∷ (slice-at (named 8) mut i64, l10) ∷ (slice-at (named 9) mut T.the-row, l11) ∷ (F′.mir, l12) ∷ (tyArray (tyInt w64) 6144, l13)
-          ∷ (Y′.mir, l14) ∷ (ref-at erased mut u64, l15) ∷ (slice-at erased mut u64, l16) ∷ (ref-at erased mut u64, l17)
-          ∷ (slice-at erased mut u64, l18) ∷ (ref-at erased mut u64, l19) ∷ (slice-at erased mut u64, l20) ∷ (ref-at erased mut u32, l21)
-          ∷ (slice-at erased mut u32, l22) ∷ (ref-at erased mut u8, l23) ∷ (slice-at erased mut u8, l24) ∷ (ref-at erased mut i64, l25)
-          ∷ (slice-at erased mut i64, l26) ∷ (ref-at erased mut i64, l27) ∷ (slice-at erased mut i64, l28)
-          ∷ (tyRef erased mut (tyArray (pointee (i64 .written)) 6144), l29) ∷ (slice-at erased mut i64, l30) ∷ (tyInt w64, l31)
+          ∷ (slice-at (named 8) mut i64, l10) ∷ (slice-at (named 9) mut T.the-row, l11) ∷ (F′.mir, l12)
+          ∷ (tyArray (tyInt w64) numberPlaces, l13) ∷ (Y′.mir, l14) ∷ (ref-at erased mut u64, l15) ∷ (slice-at erased mut u64, l16)
+          ∷ (ref-at erased mut u64, l17) ∷ (slice-at erased mut u64, l18) ∷ (ref-at erased mut u64, l19) ∷ (slice-at erased mut u64, l20)
+          ∷ (ref-at erased mut u32, l21) ∷ (slice-at erased mut u32, l22) ∷ (ref-at erased mut u8, l23) ∷ (slice-at erased mut u8, l24)
+          ∷ (ref-at erased mut i64, l25) ∷ (slice-at erased mut i64, l26) ∷ (ref-at erased mut i64, l27) ∷ (slice-at erased mut i64, l28)
+          ∷ (tyRef erased mut (tyArray (pointee (i64 .written)) numberPlaces), l29) ∷ (slice-at erased mut i64, l30) ∷ (tyInt w64, l31)
           ∷ (tyUnit, l32) ∷ (ref-at erased mut T.the-row, l33) ∷ (slice-at erased mut T.the-row, l34)
-          ∷ (tyRef erased imm (tyArray (pointee (i64 .written)) 6144), l35) ∷ (slice-at erased imm i64, l36) ∷ []
+          ∷ (tyRef erased imm (tyArray (pointee (i64 .written)) numberPlaces), l35) ∷ (slice-at erased imm i64, l36) ∷ []
 
       -- the locals that stand alike before and after each call, the last first
       abbrev spare : List (Item 𝓤) → List (Item 𝓤)
       spare rest = ‵ (froom (slice-at erased imm i64) l36 0) ∷ ‵ (fdies (slice-at erased imm i64) l36)
-          ∷ ‵ (froom (tyRef erased imm (tyArray (pointee (i64 .written)) 6144)) l35 0)
-          ∷ ‵ (fdies (tyRef erased imm (tyArray (pointee (i64 .written)) 6144)) l35) ∷ ‵ (froom (slice-at erased mut T.the-row) l34 0)
-          ∷ ‵ (fdies (slice-at erased mut T.the-row) l34) ∷ ‵ (froom (ref-at erased mut T.the-row) l33 0)
-          ∷ ‵ (fdies (ref-at erased mut T.the-row) l33) ∷ ‵ (froom tyUnit l32 0) ∷ ‵ (fdies tyUnit l32) ∷ ‵ (froom (tyInt w64) l31 0)
-          ∷ ‵ (fdies (tyInt w64) l31) ∷ ‵ (froom (slice-at erased mut i64) l30 0) ∷ ‵ (fdies (slice-at erased mut i64) l30)
-          ∷ ‵ (froom (tyRef erased mut (tyArray (pointee (i64 .written)) 6144)) l29 0)
-          ∷ ‵ (fdies (tyRef erased mut (tyArray (pointee (i64 .written)) 6144)) l29) ∷ ‵ (froom (slice-at erased mut i64) l28 0)
+          ∷ ‵ (froom (tyRef erased imm (tyArray (pointee (i64 .written)) numberPlaces)) l35 0)
+          ∷ ‵ (fdies (tyRef erased imm (tyArray (pointee (i64 .written)) numberPlaces)) l35)
+          ∷ ‵ (froom (slice-at erased mut T.the-row) l34 0) ∷ ‵ (fdies (slice-at erased mut T.the-row) l34)
+          ∷ ‵ (froom (ref-at erased mut T.the-row) l33 0) ∷ ‵ (fdies (ref-at erased mut T.the-row) l33) ∷ ‵ (froom tyUnit l32 0)
+          ∷ ‵ (fdies tyUnit l32) ∷ ‵ (froom (tyInt w64) l31 0) ∷ ‵ (fdies (tyInt w64) l31) ∷ ‵ (froom (slice-at erased mut i64) l30 0)
+          ∷ ‵ (fdies (slice-at erased mut i64) l30) ∷ ‵ (froom (tyRef erased mut (tyArray (pointee (i64 .written)) numberPlaces)) l29 0)
+          ∷ ‵ (fdies (tyRef erased mut (tyArray (pointee (i64 .written)) numberPlaces)) l29) ∷ ‵ (froom (slice-at erased mut i64) l28 0)
           ∷ ‵ (fdies (slice-at erased mut i64) l28) ∷ ‵ (froom (ref-at erased mut i64) l27 0) ∷ ‵ (fdies (ref-at erased mut i64) l27)
           ∷ ‵ (froom (slice-at erased mut i64) l26 0) ∷ ‵ (fdies (slice-at erased mut i64) l26) ∷ ‵ (froom (ref-at erased mut i64) l25 0)
           ∷ ‵ (fdies (ref-at erased mut i64) l25) ∷ ‵ (froom (slice-at erased mut u8) l24 0) ∷ ‵ (fdies (slice-at erased mut u8) l24)
@@ -204,7 +209,7 @@ module _ {M : Type 1} (𝓤 : URA M) (H : Heap 𝓤) (A : Atoms 𝓤) (W : Given
           (long-readings : length zs-readings ≡ length (readings .values)) (zs-blocks : List ℕ)
           (long-blocks : length zs-blocks ≡ length (blocks .values)) (zs-lines : List ℤ)
           (long-lines : length zs-lines ≡ length (lines .values)) (zs-sent : List ℤ) (long-sent : length zs-sent ≡ length (sent .values))
-          (zs-numbers : List ℤ) (long-numbers : length zs-numbers ≡ 6144)
+          (zs-numbers : List ℤ) (long-numbers : length zs-numbers ≡ numberPlaces)
           (e1 : Numbered world (worldIn (reply .book) (given (lent element-data) (lent prices) (at links (links .name) zs-links)
           (at holders (holders .name) zs-holders) (at states (states .name) zs-states) (at readings (readings .name) zs-readings)
           (at blocks (blocks .name) zs-blocks) (at lines (lines .name) zs-lines) (at sent (sent .name) zs-sent))) fields reply
@@ -215,10 +220,11 @@ module _ {M : Type 1} (𝓤 : URA M) (H : Heap 𝓤) (A : Atoms 𝓤) (W : Given
           rows-2 = MutSlice (named 0) (ν-records ∷ []) T.the-row ∷ ShrSlice (named 1) (ν-numbers ∷ []) i64 ∷ usize ∷ []
 
           abbrev passed-2 : Denots rows-2
-          passed-2 = (at records δ-records (records .values), (at-local i64 6144 l13 δ-numbers zs-numbers, (reply .records, tt)))
+          passed-2 =
+              (at records δ-records (records .values), (at-local i64 numberPlaces l13 δ-numbers zs-numbers, (reply .records, tt)))
 
           abbrev vals-2 : Valss rows-2
-          vals-2 = (val records ∷ [], (val-local i64 6144 l13 ∷ [], (vint w64 (reply .records) ∷ [], tt)))
+          vals-2 = (val records ∷ [], (val-local i64 numberPlaces l13 ∷ [], (vint w64 (reply .records) ∷ [], tt)))
 
           abbrev κs-2 : Lfts 2
           κs-2 = (ν-records ∷ [], (ν-numbers ∷ [], tt))
@@ -265,36 +271,36 @@ module _ {M : Type 1} (𝓤 : URA M) (H : Heap 𝓤) (A : Atoms 𝓤) (W : Given
             (‵ (HadShared element-data (named 0)) ∷ ‵ (HadShared prices (named 1)) ∷ ‵ (Had links (named 2) zs-links)
             ∷ ‵ (Had holders (named 3) zs-holders) ∷ ‵ (Had states (named 4) zs-states) ∷ ‵ (Had readings (named 5) zs-readings)
             ∷ ‵ (Had blocks (named 6) zs-blocks) ∷ ‵ (Had lines (named 7) zs-lines) ∷ ‵ (Had sent (named 8) zs-sent)
-            ∷ ‵ (Had records (named 9) zs-records) ∷ ‵ (Elements i64 6144 l13 zs-numbers) ∷ spare
+            ∷ ‵ (Had records (named 9) zs-records) ∷ ‵ (Elements i64 numberPlaces l13 zs-numbers) ∷ spare
             (‵ (fat fullShare Y′.mir l14 0 (LL.val Y.the-type Y′.the-laws reply)) ∷ ‵ (fdies Y′.mir l14)
-            ∷ ‵ (fdies (tyArray (tyInt w64) 6144) l13) ∷ held (‵ (froom Y′.mir l0 0) ∷ ‵ (fdies Y′.mir l0) ∷ [])))
+            ∷ ‵ (fdies (tyArray (tyInt w64) numberPlaces) l13) ∷ held (‵ (froom Y′.mir l0 0) ∷ ‵ (fdies Y′.mir l0) ∷ [])))
             (runs C Λ E mir.t-25 (atRet E Post))
         returned zs-records long-records e2 =
             assigns ! (of-opd ! (load ! (from ! (stop !)) (look ! 55 refl))) (from ! (stop !)) (init ! 82 refl
             (LL.lawful Y.the-type Y′.the-laws 𝓤 H A W .typed reply _ reply-is .0)) $ move ! (10 ∷ []) $
-            use1 W (‵ (froom (tyArray (tyInt w64) 6144) l13 0)) (falls 𝓤 H A W i64 tt 6144 l13 _ (sint-tells w64) zs-numbers long-numbers) $
-            returns ! (look ! 82 refl) $ forget ! 55 refl $ forget ! 58 refl $ forget ! 60 refl $ forget ! 62 refl $ forget ! 64 refl $
-            forget ! 66 refl $ forget ! 68 refl $ forget ! 70 refl $ forget ! 72 refl $ forget ! 74 refl $ forget ! 76 refl $
-            forget ! 78 refl $ forget ! 80 refl $ forget ! 82 refl $ move ! (82 ∷ 83 ∷ []) $ free1 ! $ move ! (80 ∷ 81 ∷ []) $ free1 ! $
-            move ! (78 ∷ 79 ∷ []) $ free1 ! $ move ! (76 ∷ 77 ∷ []) $ free1 ! $ move ! (74 ∷ 75 ∷ []) $ free1 ! $ move ! (72 ∷ 73 ∷ []) $
-            free1 ! $ move ! (70 ∷ 71 ∷ []) $ free1 ! $ move ! (68 ∷ 69 ∷ []) $ free1 ! $ move ! (66 ∷ 67 ∷ []) $ free1 ! $
-            move ! (64 ∷ 65 ∷ []) $ free1 ! $ move ! (62 ∷ 63 ∷ []) $ free1 ! $ move ! (60 ∷ 61 ∷ []) $ free1 ! $ move ! (58 ∷ 59 ∷ []) $
-            free1 ! $ move ! (0 ∷ 57 ∷ []) $ free1 ! $ move ! (54 ∷ 55 ∷ []) $ free1 ! $ move ! (52 ∷ 53 ∷ []) $ free1 ! $
-            move ! (50 ∷ 51 ∷ []) $ free1 ! $ move ! (48 ∷ 49 ∷ []) $ free1 ! $ move ! (46 ∷ 47 ∷ []) $ free1 ! $ move ! (44 ∷ 45 ∷ []) $
-            free1 ! $ move ! (42 ∷ 43 ∷ []) $ free1 ! $ move ! (40 ∷ 41 ∷ []) $ free1 ! $ move ! (38 ∷ 39 ∷ []) $ free1 ! $
-            move ! (36 ∷ 37 ∷ []) $ free1 ! $ move ! (34 ∷ 35 ∷ []) $ free1 ! $ move ! (32 ∷ 33 ∷ []) $ free1 ! $ move ! (30 ∷ 31 ∷ []) $
-            free1 ! $ move ! (28 ∷ 29 ∷ []) $ free1 ! $ move ! (26 ∷ 27 ∷ []) $ free1 ! $ move ! (24 ∷ 25 ∷ []) $ free1 ! $
-            move ! (22 ∷ 23 ∷ []) $ free1 ! $ move ! (20 ∷ 21 ∷ []) $ free1 ! $ move ! (18 ∷ 19 ∷ []) $ free1 ! $ move ! (16 ∷ 17 ∷ []) $
-            free1 ! $ move ! (14 ∷ 15 ∷ []) $ free1 ! $ move ! (12 ∷ 13 ∷ []) $ free1 ! $ move ! (10 ∷ 11 ∷ []) $ free1 ! $ free0 ! $
-            by ! (exits zs-records long-records e2)
+            use1 W (‵ (froom (tyArray (tyInt w64) numberPlaces) l13 0)) (falls 𝓤 H A W i64 tt numberPlaces l13 _ (sint-tells w64) zs-numbers
+            long-numbers) $ returns ! (look ! 82 refl) $ forget ! 55 refl $ forget ! 58 refl $ forget ! 60 refl $ forget ! 62 refl $
+            forget ! 64 refl $ forget ! 66 refl $ forget ! 68 refl $ forget ! 70 refl $ forget ! 72 refl $ forget ! 74 refl $
+            forget ! 76 refl $ forget ! 78 refl $ forget ! 80 refl $ forget ! 82 refl $ move ! (82 ∷ 83 ∷ []) $ free1 ! $
+            move ! (80 ∷ 81 ∷ []) $ free1 ! $ move ! (78 ∷ 79 ∷ []) $ free1 ! $ move ! (76 ∷ 77 ∷ []) $ free1 ! $ move ! (74 ∷ 75 ∷ []) $
+            free1 ! $ move ! (72 ∷ 73 ∷ []) $ free1 ! $ move ! (70 ∷ 71 ∷ []) $ free1 ! $ move ! (68 ∷ 69 ∷ []) $ free1 ! $
+            move ! (66 ∷ 67 ∷ []) $ free1 ! $ move ! (64 ∷ 65 ∷ []) $ free1 ! $ move ! (62 ∷ 63 ∷ []) $ free1 ! $ move ! (60 ∷ 61 ∷ []) $
+            free1 ! $ move ! (58 ∷ 59 ∷ []) $ free1 ! $ move ! (0 ∷ 57 ∷ []) $ free1 ! $ move ! (54 ∷ 55 ∷ []) $ free1 ! $
+            move ! (52 ∷ 53 ∷ []) $ free1 ! $ move ! (50 ∷ 51 ∷ []) $ free1 ! $ move ! (48 ∷ 49 ∷ []) $ free1 ! $ move ! (46 ∷ 47 ∷ []) $
+            free1 ! $ move ! (44 ∷ 45 ∷ []) $ free1 ! $ move ! (42 ∷ 43 ∷ []) $ free1 ! $ move ! (40 ∷ 41 ∷ []) $ free1 ! $
+            move ! (38 ∷ 39 ∷ []) $ free1 ! $ move ! (36 ∷ 37 ∷ []) $ free1 ! $ move ! (34 ∷ 35 ∷ []) $ free1 ! $ move ! (32 ∷ 33 ∷ []) $
+            free1 ! $ move ! (30 ∷ 31 ∷ []) $ free1 ! $ move ! (28 ∷ 29 ∷ []) $ free1 ! $ move ! (26 ∷ 27 ∷ []) $ free1 ! $
+            move ! (24 ∷ 25 ∷ []) $ free1 ! $ move ! (22 ∷ 23 ∷ []) $ free1 ! $ move ! (20 ∷ 21 ∷ []) $ free1 ! $ move ! (18 ∷ 19 ∷ []) $
+            free1 ! $ move ! (16 ∷ 17 ∷ []) $ free1 ! $ move ! (14 ∷ 15 ∷ []) $ free1 ! $ move ! (12 ∷ 13 ∷ []) $ free1 ! $
+            move ! (10 ∷ 11 ∷ []) $ free1 ! $ free0 ! $ by ! (exits zs-records long-records e2)
 
         -- from the call of `put_list` on
         stage-2 : Sq W (‵ (HadShared element-data (named 0)) ∷ ‵ (HadShared prices (named 1)) ∷ ‵ (Had links (named 2) zs-links)
             ∷ ‵ (Had holders (named 3) zs-holders) ∷ ‵ (Had states (named 4) zs-states) ∷ ‵ (Had readings (named 5) zs-readings)
             ∷ ‵ (Had blocks (named 6) zs-blocks) ∷ ‵ (Had lines (named 7) zs-lines) ∷ ‵ (Had sent (named 8) zs-sent)
-            ∷ ‵ (Had records (named 9) (records .values)) ∷ ‵ (Elements i64 6144 l13 zs-numbers) ∷ spare
+            ∷ ‵ (Had records (named 9) (records .values)) ∷ ‵ (Elements i64 numberPlaces l13 zs-numbers) ∷ spare
             (‵ (fat fullShare Y′.mir l14 0 (LL.val Y.the-type Y′.the-laws reply)) ∷ ‵ (fdies Y′.mir l14)
-            ∷ ‵ (fdies (tyArray (tyInt w64) 6144) l13) ∷ held (‵ (froom Y′.mir l0 0) ∷ ‵ (fdies Y′.mir l0) ∷ [])))
+            ∷ ‵ (fdies (tyArray (tyInt w64) numberPlaces) l13) ∷ held (‵ (froom Y′.mir l0 0) ∷ ‵ (fdies Y′.mir l0) ∷ [])))
             (runs C Λ E mir.t-20 (atRet E Post))
         stage-2 =
             assigns ! (addr ! (from ! (fld ! refl (hop ! (look-in ! 60 (sub ! 0 refl (whole !))) (stop !))))) (from ! (stop !))
@@ -307,7 +313,7 @@ module _ {M : Type 1} (𝓤 : URA M) (H : Heap 𝓤) (A : Atoms 𝓤) (W : Given
             (and-then ! (big-lit ! (record { fits = lit< tt })) (no-more !)))) (from ! (stop !))
             (init ! 11 refl (tt, (tt, (record { fits = lit< tt }, tt)))) $ move ! (9 ∷ []) $
             lends-again ! tt records (named 9) (named 0) (λ ν-records δ-records. move ! (12 ∷ []) $
-            shares-local ! tt i64 6144 l13 (named 1) zs-numbers long-numbers room-numbers (λ ν-numbers δ-numbers. nothing ! $
+            shares-local ! tt i64 numberPlaces l13 (named 1) zs-numbers long-numbers room-numbers (λ ν-numbers δ-numbers. nothing ! $
             move ! (3 ∷ 0 ∷ []) $ fjoin ! $ move ! (5 ∷ 0 ∷ []) $ fjoin ! $ nothing ! $
             owned ! usize (Is usize) (uint-makes 𝓤 H A W w64) (reply .records) _ (refl, below (e1 .few) (records .room .0)) $ fjoin ! $
             move ! (2 ∷ 0 ∷ []) $ fjoin ! $ move ! (3 ∷ 0 ∷ []) $ fjoin ! $ move ! (1 ∷ 0 ∷ []) $
@@ -328,11 +334,13 @@ module _ {M : Type 1} (𝓤 : URA M) (H : Heap 𝓤) (A : Atoms 𝓤) (W : Given
             drop ! $ move ! (1 ∷ []) $ split ! $ fsplit ! $ move ! (1 ∷ []) $ fsplit ! $ move ! (1 ∷ []) $ drop ! $ move ! (2 ∷ []) $
             feqL ! (λ is. land ! (from ! (stop !)) (init ! 22 refl (nothing-lawful 𝓤 H A W .typed tt _ is .0)) $ move ! (1 ∷ 4 ∷ 2 ∷ []) $
             comes-back ! tt records (named 9) ν-records δ-records (zs .0) len-records $ move ! (1 ∷ 2 ∷ []) $
-            shared-back ! tt i64 6144 l13 ν-numbers zs-numbers $ forget ! 17 refl $ forget ! 15 refl $ forget ! 13 refl $ forget ! 11 refl $
-            forget ! 19 refl $ move ! (2 ∷ 3 ∷ 4 ∷ 5 ∷ 6 ∷ 7 ∷ 8 ∷ 9 ∷ 10 ∷ 1 ∷ 0 ∷ []) $ returned (zs .0) len-records e2))))))))
+            shared-back ! tt i64 numberPlaces l13 ν-numbers zs-numbers $ forget ! 17 refl $ forget ! 15 refl $ forget ! 13 refl $
+            forget ! 11 refl $ forget ! 19 refl $ move ! (2 ∷ 3 ∷ 4 ∷ 5 ∷ 6 ∷ 7 ∷ 8 ∷ 9 ∷ 10 ∷ 1 ∷ 0 ∷ []) $
+            returned (zs .0) len-records e2))))))))
 
       -- what is passed to `message_numbers`, what its triple binds outside, and that the caller has what it asks
-      module _ (zs₀ : List ℤ) (long₀ : length zs₀ ≡ 6144) (ν-links ν-holders ν-states ν-readings ν-blocks ν-lines ν-sent ν-numbers : ℕ)
+      module _ (zs₀ : List ℤ) (long₀ : length zs₀ ≡ numberPlaces)
+          (ν-links ν-holders ν-states ν-readings ν-blocks ν-lines ν-sent ν-numbers : ℕ)
           (δ-links δ-holders δ-states δ-readings δ-blocks δ-lines δ-sent δ-numbers : GName) where
         abbrev rows-1 : List RattleType
         rows-1 = B.the-row ∷ ShrSlice (named 0) (element-data .lifetime) u8 ∷ ShrSlice (named 1) (prices .lifetime) i64 ∷ MutSlice
@@ -342,11 +350,11 @@ module _ {M : Type 1} (𝓤 : URA M) (H : Heap 𝓤) (A : Atoms 𝓤) (W : Given
 
         abbrev passed-1 : Denots rows-1
         passed-1 =
-            (book, (lent element-data, (lent prices, (at links δ-links (links .values), (at holders δ-holders (holders .values), (at states δ-states (states .values), (at readings δ-readings (readings .values), (at blocks δ-blocks (blocks .values), (at lines δ-lines (lines .values), (at sent δ-sent (sent .values), (at-local i64 6144 l13 δ-numbers zs₀, (length (records .values), (fields, tt)))))))))))))
+            (book, (lent element-data, (lent prices, (at links δ-links (links .values), (at holders δ-holders (holders .values), (at states δ-states (states .values), (at readings δ-readings (readings .values), (at blocks δ-blocks (blocks .values), (at lines δ-lines (lines .values), (at sent δ-sent (sent .values), (at-local i64 numberPlaces l13 δ-numbers zs₀, (length (records .values), (fields, tt)))))))))))))
 
         abbrev vals-1 : Valss rows-1
         vals-1 =
-            (LL.val B.the-type B′.the-laws book ∷ [], (val element-data ∷ [], (val prices ∷ [], (val links ∷ [], (val holders ∷ [], (val states ∷ [], (val readings ∷ [], (val blocks ∷ [], (val lines ∷ [], (val sent ∷ [], (val-local i64 6144 l13 ∷ [], (vint w64 (length (records .values)) ∷ [], (LL.val F.the-type F′.the-laws fields ∷ [], tt)))))))))))))
+            (LL.val B.the-type B′.the-laws book ∷ [], (val element-data ∷ [], (val prices ∷ [], (val links ∷ [], (val holders ∷ [], (val states ∷ [], (val readings ∷ [], (val blocks ∷ [], (val lines ∷ [], (val sent ∷ [], (val-local i64 numberPlaces l13 ∷ [], (vint w64 (length (records .values)) ∷ [], (LL.val F.the-type F′.the-laws fields ∷ [], tt)))))))))))))
 
         abbrev κs-1 : Lfts 10
         κs-1 =
@@ -366,13 +374,13 @@ module _ {M : Type 1} (𝓤 : URA M) (H : Heap 𝓤) (A : Atoms 𝓤) (W : Given
         asked-1 = qed W (‵ Toks-1 ∷ ‵ (owns rows-1 passed-1 vals-1) ∷ []) ∵ says ! long₀ $ done !
 
       -- from the call of `message_numbers` on
-      stage-1 : (zs₀ : List ℤ) (long₀ : length zs₀ ≡ 6144) → Sq W (‵ (HadShared element-data (named 0)) ∷ ‵ (HadShared prices (named 1))
-          ∷ ‵ (Had links (named 2) (links .values)) ∷ ‵ (Had holders (named 3) (holders .values))
+      stage-1 : (zs₀ : List ℤ) (long₀ : length zs₀ ≡ numberPlaces) → Sq W (‵ (HadShared element-data (named 0))
+          ∷ ‵ (HadShared prices (named 1)) ∷ ‵ (Had links (named 2) (links .values)) ∷ ‵ (Had holders (named 3) (holders .values))
           ∷ ‵ (Had states (named 4) (states .values)) ∷ ‵ (Had readings (named 5) (readings .values))
           ∷ ‵ (Had blocks (named 6) (blocks .values)) ∷ ‵ (Had lines (named 7) (lines .values)) ∷ ‵ (Had sent (named 8) (sent .values))
-          ∷ ‵ (Had records (named 9) (records .values)) ∷ ‵ (Elements i64 6144 l13 zs₀) ∷ spare (‵ (froom Y′.mir l14 0)
-          ∷ ‵ (fdies Y′.mir l14) ∷ ‵ (fdies (tyArray (tyInt w64) 6144) l13) ∷ held (‵ (froom Y′.mir l0 0) ∷ ‵ (fdies Y′.mir l0) ∷ [])))
-          (runs C Λ E mir.t-2 (atRet E Post))
+          ∷ ‵ (Had records (named 9) (records .values)) ∷ ‵ (Elements i64 numberPlaces l13 zs₀) ∷ spare (‵ (froom Y′.mir l14 0)
+          ∷ ‵ (fdies Y′.mir l14) ∷ ‵ (fdies (tyArray (tyInt w64) numberPlaces) l13) ∷ held
+          (‵ (froom Y′.mir l0 0) ∷ ‵ (fdies Y′.mir l0) ∷ []))) (runs C Λ E mir.t-2 (atRet E Post))
       stage-1 zs₀ long₀ =
           assigns ! (addr ! (from ! (fld ! refl (hop ! (look-in ! 74 (sub ! 0 refl (whole !))) (stop !))))) (from ! (stop !))
           (init ! 53 refl (tt, tt)) $
@@ -422,10 +430,10 @@ module _ {M : Type 1} (𝓤 : URA M) (H : Heap 𝓤) (A : Atoms 𝓤) (W : Given
           lends-again ! tt blocks (named 6) (named 6) (λ ν-blocks δ-blocks. move ! (21 ∷ []) $
           lends-again ! tt lines (named 7) (named 7) (λ ν-lines δ-lines. move ! (24 ∷ []) $
           lends-again ! tt sent (named 8) (named 8) (λ ν-sent δ-sent. move ! (28 ∷ []) $
-          lends-local ! tt i64 6144 l13 (named 9) zs₀ long₀ room-numbers (λ ν-numbers δ-numbers. nothing ! $ move ! (3 ∷ 0 ∷ []) $ fjoin ! $
-          move ! (5 ∷ 0 ∷ []) $ fjoin ! $ move ! (7 ∷ 0 ∷ []) $ fjoin ! $ move ! (9 ∷ 0 ∷ []) $ fjoin ! $ move ! (11 ∷ 0 ∷ []) $ fjoin ! $
-          move ! (13 ∷ 0 ∷ []) $ fjoin ! $ move ! (15 ∷ 0 ∷ []) $ fjoin ! $ move ! (17 ∷ 0 ∷ []) $ fjoin ! $ move ! (19 ∷ 0 ∷ []) $
-          fjoin ! $ move ! (21 ∷ 0 ∷ []) $ fjoin ! $ nothing ! $
+          lends-local ! tt i64 numberPlaces l13 (named 9) zs₀ long₀ room-numbers (λ ν-numbers δ-numbers. nothing ! $ move ! (3 ∷ 0 ∷ []) $
+          fjoin ! $ move ! (5 ∷ 0 ∷ []) $ fjoin ! $ move ! (7 ∷ 0 ∷ []) $ fjoin ! $ move ! (9 ∷ 0 ∷ []) $ fjoin ! $ move ! (11 ∷ 0 ∷ []) $
+          fjoin ! $ move ! (13 ∷ 0 ∷ []) $ fjoin ! $ move ! (15 ∷ 0 ∷ []) $ fjoin ! $ move ! (17 ∷ 0 ∷ []) $ fjoin ! $
+          move ! (19 ∷ 0 ∷ []) $ fjoin ! $ move ! (21 ∷ 0 ∷ []) $ fjoin ! $ nothing ! $
           owned ! F.the-row (Is F.the-row) ((LL.makes F.the-type F′.the-plain) 𝓤 H A) fields _ fields-is $ fjoin ! $
           owned ! usize (Is usize) (uint-makes 𝓤 H A W w64) (length (records .values)) _ (refl, records .room .0) $ fjoin ! $
           move ! (2 ∷ 0 ∷ []) $ fjoin ! $ move ! (3 ∷ 0 ∷ []) $ fjoin ! $ move ! (4 ∷ 0 ∷ []) $ fjoin ! $ move ! (5 ∷ 0 ∷ []) $ fjoin ! $
@@ -485,10 +493,11 @@ module _ {M : Type 1} (𝓤 : URA M) (H : Heap 𝓤) (A : Atoms 𝓤) (W : Given
           comes-back ! tt blocks (named 6) ν-blocks δ-blocks (zs .1 .1 .1 .1 .1 .1 .1 .0) len-blocks $ move ! (9 ∷ 15 ∷ 12 ∷ []) $
           comes-back ! tt lines (named 7) ν-lines δ-lines (zs .1 .1 .1 .1 .1 .1 .1 .1 .0) len-lines $ move ! (9 ∷ 13 ∷ 11 ∷ []) $
           comes-back ! tt sent (named 8) ν-sent δ-sent (zs .1 .1 .1 .1 .1 .1 .1 .1 .1 .0) len-sent $ move ! (9 ∷ 11 ∷ 10 ∷ []) $
-          local-back ! tt i64 6144 l13 ν-numbers δ-numbers (zs .1 .1 .1 .1 .1 .1 .1 .1 .1 .1 .0) $ forget ! 53 refl $ forget ! 51 refl $
-          forget ! 49 refl $ forget ! 47 refl $ forget ! 45 refl $ forget ! 43 refl $ forget ! 41 refl $ forget ! 39 refl $
-          forget ! 37 refl $ forget ! 35 refl $ forget ! 33 refl $ forget ! 31 refl $ forget ! 29 refl $ forget ! 27 refl $
-          forget ! 25 refl $ forget ! 23 refl $ forget ! 21 refl $ move ! (9 ∷ 8 ∷ 7 ∷ 6 ∷ 5 ∷ 4 ∷ 3 ∷ 2 ∷ 1 ∷ 10 ∷ 0 ∷ []) $
+          local-back ! tt i64 numberPlaces l13 ν-numbers δ-numbers (zs .1 .1 .1 .1 .1 .1 .1 .1 .1 .1 .0) $ forget ! 53 refl $
+          forget ! 51 refl $ forget ! 49 refl $ forget ! 47 refl $ forget ! 45 refl $ forget ! 43 refl $ forget ! 41 refl $
+          forget ! 39 refl $ forget ! 37 refl $ forget ! 35 refl $ forget ! 33 refl $ forget ! 31 refl $ forget ! 29 refl $
+          forget ! 27 refl $ forget ! 25 refl $ forget ! 23 refl $ forget ! 21 refl $
+          move ! (9 ∷ 8 ∷ 7 ∷ 6 ∷ 5 ∷ 4 ∷ 3 ∷ 2 ∷ 1 ∷ 10 ∷ 0 ∷ []) $
           stage-2 reply (subst (Is Y.the-row reply) (LL.tells Y.the-type Y′.the-laws reply _ is) is) (zs .1 .1 .1 .0) len-links
           (zs .1 .1 .1 .1 .0) len-holders (zs .1 .1 .1 .1 .1 .0) len-states (zs .1 .1 .1 .1 .1 .1 .0) len-readings
           (zs .1 .1 .1 .1 .1 .1 .1 .0) len-blocks (zs .1 .1 .1 .1 .1 .1 .1 .1 .0) len-lines (zs .1 .1 .1 .1 .1 .1 .1 .1 .1 .0) len-sent
@@ -499,15 +508,16 @@ module _ {M : Type 1} (𝓤 : URA M) (H : Heap 𝓤) (A : Atoms 𝓤) (W : Given
           ∷ ‵ (Had holders (named 3) (holders .values)) ∷ ‵ (Had states (named 4) (states .values))
           ∷ ‵ (Had readings (named 5) (readings .values)) ∷ ‵ (Had blocks (named 6) (blocks .values))
           ∷ ‵ (Had lines (named 7) (lines .values)) ∷ ‵ (Had sent (named 8) (sent .values)) ∷ ‵ (Had records (named 9) (records .values))
-          ∷ spare (‵ (froom Y′.mir l14 0) ∷ ‵ (fdies Y′.mir l14) ∷ ‵ (froom (tyArray (tyInt w64) 6144) l13 0)
-          ∷ ‵ (fdies (tyArray (tyInt w64) 6144) l13) ∷ held (‵ (froom Y′.mir l0 0) ∷ ‵ (fdies Y′.mir l0) ∷ [])))
+          ∷ spare (‵ (froom Y′.mir l14 0) ∷ ‵ (fdies Y′.mir l14) ∷ ‵ (froom (tyArray (tyInt w64) numberPlaces) l13 0)
+          ∷ ‵ (fdies (tyArray (tyInt w64) numberPlaces) l13) ∷ held (‵ (froom Y′.mir l0 0) ∷ ‵ (fdies Y′.mir l0) ∷ [])))
           (runs C Λ E mir.t-1 (atRet E Post))
       stage-0 =
-          assigns ! (rep ! 6144 (lit ! tt)) (from ! (stop !)) (init ! 56 refl (array-lawful 𝓤 H A W i64 (sint-lawful 𝓤 H A W w64) 6144
-          .typed (replicate 6144 (pos 0)) _ (repeated i64 (pos 0) (vint w64 0) (refl, lit< tt) 6144) .0)) $ move ! (56 ∷ []) $
-          use1 W (‵ (Elements i64 6144 l13 ((replicate 6144 (pos 0))))) (stands 𝓤 H A W i64 tt 6144 l13 (sint-makes 𝓤 H A W w64) (pos 0)
-          (vint w64 0) (refl, lit< tt)) $ move ! (1 ∷ 2 ∷ 3 ∷ 4 ∷ 5 ∷ 6 ∷ 7 ∷ 8 ∷ 9 ∷ 10 ∷ 0 ∷ []) $
-          stage-1 (replicate 6144 (pos 0)) (length-replicate {A = ℤ} 6144 (pos 0))
+          assigns ! (rep ! numberPlaces (lit ! tt)) (from ! (stop !)) (init ! 56 refl (array-lawful 𝓤 H A W i64 (sint-lawful 𝓤 H A W w64)
+          numberPlaces .typed (replicate numberPlaces (pos 0)) _ (repeated i64 (pos 0) (vint w64 0) (refl, lit< tt) numberPlaces) .0)) $
+          move ! (56 ∷ []) $
+          use1 W (‵ (Elements i64 numberPlaces l13 ((replicate numberPlaces (pos 0))))) (stands 𝓤 H A W i64 tt numberPlaces l13
+          (sint-makes 𝓤 H A W w64) (pos 0) (vint w64 0) (refl, lit< tt)) $ move ! (1 ∷ 2 ∷ 3 ∷ 4 ∷ 5 ∷ 6 ∷ 7 ∷ 8 ∷ 9 ∷ 10 ∷ 0 ∷ []) $
+          stage-1 (replicate numberPlaces (pos 0)) (length-replicate {A = ℤ} numberPlaces (pos 0))
 
     walk : ent 𝓤 (onEntry 𝓤 H A self.signature κs
         (element-data .share, (prices .share, (links .share, (holders .share, (states .share, (readings .share, (blocks .share, (lines .share, (sent .share, (records .share, tt))))))))))

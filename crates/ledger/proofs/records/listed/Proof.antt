@@ -44,12 +44,16 @@ use denote.Triple.Table.{entered, cited}
 use denote.Triple.Walked.{says, needs, Stays, stay-none, stay-none-slice, walkOf, goes-none, goes-none-slice, Walks, ends-at, walked}
 use denote.Triple.Walked.{walk-meets}
 use denote.Exit.{yes}
+use Rattle.rules.specs.declared.Balance.{Balance}
 use Rattle.rules.specs.declared.Record.{Record}
+use Rattle.rules.proofs.Balance as B
+use Rattle.rules.proofs.Balance.Laws as B′
 use Rattle.rules.specs.Basics.{listTo}
 use Rattle.rules.specs.Sizes.{mostLines}
 use Rattle.rules.proofs.Record as T
 use Rattle.rules.proofs.Record.Laws as T′
-use Rattle.ledger.specs.RecordNumbers.{noRecord, recordAt, RecordPlaces}
+use Rattle.rules.specs.Effects.{noRecord}
+use Rattle.ledger.specs.RecordNumbers.{recordAt, RecordPlaces}
 use Rattle.ledger.proofs.Lending.{Loan, loan, lent, val, HadShared, copies}
 use Rattle.ledger.proofs.LocalArray.{big-lit, repeated, Elements, at-local, val-local, stands, gathers, lends-local, local-back}
 use Rattle.ledger.proofs.records.put_list as put-list
@@ -83,10 +87,20 @@ blank = replicate mostLines noRecord
 abbrev zeros : Val
 zeros = LL.val T.the-type T′.the-laws noRecord
 
+-- a line that stands at nothing, and its machine value
+abbrev noBalance : Balance
+noBalance = noRecord .balance
+
+abbrev zeros-balance : Val
+zeros-balance = LL.val B.the-type B′.the-laws noBalance
+
+zeros-balance-is : Is B.the-row noBalance (zeros-balance ∷ [])
+zeros-balance-is = LL.owes B.the-type B′.the-laws noBalance ((refl, lit< tt), ((refl, lit< tt), ((refl, lit< tt), tt)))
+
 zeros-is : Is R noRecord (zeros ∷ [])
 zeros-is =
     LL.owes T.the-type T′.the-laws noRecord
-    ((refl, lit< tt), ((refl, lit< tt), ((refl, lit< tt), ((refl, lit< tt), ((refl, lit< tt), ((refl, lit< tt), tt))))))
+    ((refl, lit< tt), ((refl, lit< tt), ((refl, lit< tt), ((refl, lit< tt), ((refl, lit< tt), ((refl, lit< tt), (zeros-balance-is, tt)))))))
 
 blank-long : length blank ≡ mostLines
 blank-long = length-replicate {A = Record} mostLines noRecord
@@ -164,11 +178,10 @@ module _ {M : Type 1} (𝓤 : URA M) (H : Heap 𝓤) (A : Atoms 𝓤) (W : Given
       abbrev Λ : Loops 𝓤 H
       Λ = 𝓣 .Λ
 
-      module _ (l0 l1 l2 l3 l4 l5 l6 l7 : ℕ) where
+      module _ (l0 l1 l2 l3 l4 l5 l6 l7 l8 : ℕ) where
         abbrev E : Env 𝓤 H
-        E = (tyArray T′.mir mostLines, l0) ∷ (τ-numbers, l1) ∷ (tyInt w64, l2) ∷ (tyArray T′.mir mostLines, l3) ∷ (T′.mir, l4) ∷
-            (tyUnit, l5)
-            ∷ (τ-ref, l6) ∷ (τ-list, l7) ∷ []
+        E = (tyArray T′.mir mostLines, l0) ∷ (τ-numbers, l1) ∷ (tyInt w64, l2) ∷ (tyArray T′.mir mostLines, l3) ∷ (B′.mir, l4) ∷
+            (T′.mir, l5) ∷ (tyUnit, l6) ∷ (τ-ref, l7) ∷ (τ-list, l8) ∷ []
 
         -- the parameters and the place of the result
         abbrev held : List (Item 𝓤)
@@ -178,32 +191,37 @@ module _ {M : Type 1} (𝓤 : URA M) (H : Heap 𝓤) (A : Atoms 𝓤) (W : Given
 
         -- behind the call: the list is an array again, and is returned
         returned : (zs : List Record) → length zs ≡ mostLines → AtFront zs
-            → Sq W (‵ (Elements R mostLines l3 zs) ∷ ‵ (HadShared numbers (named 0)) ∷ ‵ (froom τ-list l7 0) ∷ ‵ (fdies τ-list l7)
-            ∷ ‵ (froom τ-ref l6 0) ∷ ‵ (fdies τ-ref l6) ∷ ‵ (froom tyUnit l5 0) ∷ ‵ (fdies tyUnit l5) ∷ ‵ (froom T′.mir l4 0)
-            ∷ ‵ (fdies T′.mir l4) ∷ ‵ (fdies (tyArray T′.mir mostLines) l3) ∷ held) (runs C Λ E mir.t-6 (atRet E Post))
+            → Sq W (‵ (Elements R mostLines l3 zs) ∷ ‵ (HadShared numbers (named 0)) ∷ ‵ (froom τ-list l8 0) ∷ ‵ (fdies τ-list l8)
+            ∷ ‵ (froom τ-ref l7 0) ∷ ‵ (fdies τ-ref l7) ∷ ‵ (froom tyUnit l6 0) ∷ ‵ (fdies tyUnit l6) ∷ ‵ (froom T′.mir l5 0)
+            ∷ ‵ (fdies T′.mir l5) ∷ ‵ (froom B′.mir l4 0) ∷ ‵ (fdies B′.mir l4) ∷ ‵ (fdies (tyArray T′.mir mostLines) l3) ∷ held)
+            (runs C Λ E mir.t-7 (atRet E Post))
         returned zs long e =
             use1 W (some (λ (v : Val). ‵ (fat fullShare (tyArray T′.mir mostLines) l3 0 v) ⊛ ‵ (Array R mostLines .own zs (v ∷ []))))
             (gathers 𝓤 H A W R tt mostLines l3 _ (LL.tells T.the-type T′.the-laws) zs long) $ pick ! (λ v. split ! $ move ! (1 ∷ []) $
             peeks ! (Array R mostLines) (Is (Array R mostLines)) (shows 𝓤 H A (Array R mostLines)) zs (v ∷ []) (λ is.
             assigns ! (of-opd ! (load ! (from ! (stop !)) (look ! 1 refl))) (from ! (stop !))
-            (init ! 16 refl (array-lawful 𝓤 H A W R (LL.lawful T.the-type T′.the-laws 𝓤 H A W) mostLines .typed zs _ is .0)) $
-            returns ! (look ! 16 refl) $ forget ! 1 refl $ forget ! 12 refl $ forget ! 14 refl $ forget ! 16 refl $
-            move ! (16 ∷ 17 ∷ []) $ free1 ! $ move ! (14 ∷ 15 ∷ []) $ free1 ! $ move ! (12 ∷ 13 ∷ []) $ free1 ! $
-            move ! (1 ∷ 11 ∷ []) $ free1 ! $ move ! (8 ∷ 9 ∷ []) $ free1 ! $ move ! (6 ∷ 7 ∷ []) $ free1 ! $ move ! (4 ∷ 5 ∷ []) $ free1 ! $
+            (init ! 18 refl (array-lawful 𝓤 H A W R (LL.lawful T.the-type T′.the-laws 𝓤 H A W) mostLines .typed zs _ is .0)) $
+            returns ! (look ! 18 refl) $ forget ! 1 refl $ forget ! 14 refl $ forget ! 16 refl $ forget ! 18 refl $
+            move ! (18 ∷ 19 ∷ []) $ free1 ! $ move ! (16 ∷ 17 ∷ []) $ free1 ! $ move ! (14 ∷ 15 ∷ []) $ free1 ! $
+            move ! (1 ∷ 13 ∷ []) $ free1 ! $ move ! (10 ∷ 11 ∷ []) $ free1 ! $ move ! (8 ∷ 9 ∷ []) $ free1 ! $ move ! (6 ∷ 7 ∷ []) $ free1 ! $
+            move ! (4 ∷ 5 ∷ []) $ free1 ! $
             move ! (2 ∷ 3 ∷ []) $ free1 ! $ free0 ! $ by ! (exits zs v e)))
 
         -- the list is filled, lent to `put_list`, and taken back
-        filled : Sq W (‵ (HadShared numbers (named 0)) ∷ ‵ (froom τ-list l7 0) ∷ ‵ (fdies τ-list l7) ∷ ‵ (froom τ-ref l6 0)
-            ∷ ‵ (fdies τ-ref l6) ∷ ‵ (froom tyUnit l5 0) ∷ ‵ (fdies tyUnit l5) ∷ ‵ (froom T′.mir l4 0) ∷ ‵ (fdies T′.mir l4)
-            ∷ ‵ (froom (tyArray T′.mir mostLines) l3 0) ∷ ‵ (fdies (tyArray T′.mir mostLines) l3) ∷ held)
+        filled : Sq W (‵ (HadShared numbers (named 0)) ∷ ‵ (froom τ-list l8 0) ∷ ‵ (fdies τ-list l8) ∷ ‵ (froom τ-ref l7 0)
+            ∷ ‵ (fdies τ-ref l7) ∷ ‵ (froom tyUnit l6 0) ∷ ‵ (fdies tyUnit l6) ∷ ‵ (froom T′.mir l5 0) ∷ ‵ (fdies T′.mir l5)
+            ∷ ‵ (froom B′.mir l4 0) ∷ ‵ (fdies B′.mir l4) ∷ ‵ (froom (tyArray T′.mir mostLines) l3 0) ∷ ‵ (fdies (tyArray T′.mir mostLines) l3) ∷ held)
             (runs C Λ E mir.t-1 (atRet E Post))
         filled =
+            assigns ! (agg ! (and-then ! (lit ! tt) (and-then ! (lit ! tt) (and-then ! (lit ! tt) (no-more !))))) (from ! (stop !))
+            (init ! 9 refl (LL.lawful B.the-type B′.the-laws 𝓤 H A W .typed noBalance _ zeros-balance-is .0)) $
             assigns ! (agg ! (and-then ! (lit ! tt) (and-then ! (lit ! tt) (and-then ! (lit ! tt) (and-then ! (lit ! tt)
-            (and-then ! (lit ! tt) (and-then ! (lit ! tt) (no-more !)))))))) (from ! (stop !))
+            (and-then ! (lit ! tt) (and-then ! (lit ! tt) (and-then ! (load ! (from ! (stop !)) (look ! 9 refl)) (no-more !)))))))))
+            (from ! (stop !))
             (init ! 7 refl (LL.lawful T.the-type T′.the-laws 𝓤 H A W .typed noRecord _ zeros-is .0)) $
-            assigns ! (rep ! mostLines (load ! (from ! (stop !)) (look ! 7 refl))) (from ! (stop !)) (init ! 9 refl (array-lawful 𝓤 H A W R
+            assigns ! (rep ! mostLines (load ! (from ! (stop !)) (look ! 7 refl))) (from ! (stop !)) (init ! 11 refl (array-lawful 𝓤 H A W R
             (LL.lawful T.the-type T′.the-laws 𝓤 H A W) mostLines .typed blank _ (repeated R noRecord zeros zeros-is mostLines) .0)) $
-            forget ! 7 refl $ move ! (9 ∷ []) $ use1 W (‵ (Elements R mostLines l3 blank))
+            forget ! 7 refl $ forget ! 9 refl $ move ! (11 ∷ []) $ use1 W (‵ (Elements R mostLines l3 blank))
             (stands 𝓤 H A W R tt mostLines l3 (LL.makes T.the-type T′.the-plain 𝓤 H A) noRecord zeros zeros-is) $
             assigns ! (addr ! (from ! (stop !))) (from ! (stop !)) (init ! 4 refl (tt, tt)) $
             assigns ! (agg ! (and-then ! (load ! (from ! (stop !)) (look ! 4 refl))
@@ -215,7 +233,7 @@ module _ {M : Type 1} (𝓤 : URA M) (H : Heap 𝓤) (A : Atoms 𝓤) (W : Given
             move ! (3 ∷ 0 ∷ []) $ fjoin ! $ move ! (1 ∷ 0 ∷ []) $
             use2 W (raw (C-put-list 𝓤 H A mem run .pre (to l3 ν δ))) (asked l3 ν δ) $
             calls-at ! fm (C-put-list 𝓤 H A mem run) known (to l3 ν δ) (and-then ! (load ! (from ! (stop !)) (look ! 3 refl))
-            (and-then ! (load ! (from ! (stop !)) (look ! 14 refl)) (and-then ! (load ! (from ! (stop !)) (look ! 12 refl)) (no-more !))))
+            (and-then ! (load ! (from ! (stop !)) (look ! 16 refl)) (and-then ! (load ! (from ! (stop !)) (look ! 14 refl)) (no-more !))))
             (λ v. use1 W (later (some (λ (r : Unit {0}). (‵ (Toks l3 ν δ) ⊛ ‵ (Nothing .own r (v ∷ []))) ⊛ raw
             (ensured 𝓤 H A put-list.ended (put-list.clauses 𝓤 H A mem run) (κs l3 ν δ) (passed l3 ν δ) tt r)))) (id⊢ 𝓤 _) $ await ! tt $
             pick ! (λ r. split ! $ move ! (1 ∷ []) $
@@ -235,11 +253,11 @@ module _ {M : Type 1} (𝓤 : URA M) (H : Heap 𝓤) (A : Atoms 𝓤) (W : Given
           qed W ((‵ (flft (numbers .lifetime) (numbers .share)) ⊛ ‵ ftrue) ∷ ‵ (owns rows a vals) ∷ []) ∵
           enter ! C Λ code.function (val numbers ∷ vint w64 count ∷ []) _ $
           alloc1 ! (λ l0. alloc1 ! (λ l1. alloc1 ! (λ l2. alloc1 ! (λ l3. alloc1 ! (λ l4. alloc1 ! (λ l5. alloc1 ! (λ l6. alloc1 ! (λ l7.
-          alloc0 ! $ params1 ! $ pass1 ! (init ! 12 refl (tt, (tt, (record { fits = numbers .room .0 }, tt)))) $
-          pass1 ! (init ! 10 refl (uint-lawful 𝓤 H A W w64 .typed count _ count-is .0)) $ pass0 ! $
+          alloc1 ! (λ l8. alloc0 ! $ params1 ! $ pass1 ! (init ! 14 refl (tt, (tt, (record { fits = numbers .room .0 }, tt)))) $
+          pass1 ! (init ! 12 refl (uint-lawful 𝓤 H A W w64 .typed count _ count-is .0)) $ pass0 ! $
           -- [the locals, the last first; the tokens; what the parameters own]
-          move ! (16 ∷ 17 ∷ []) $ split ! $ move ! (1 ∷ []) $ drop ! $ move ! (1 ∷ []) $ fsplit ! $ move ! (1 ∷ []) $ fsplit ! $ drop ! $
-          drop ! $ fjoin ! $ filled l0 l1 l2 l3 l4 l5 l6 l7))))))))
+          move ! (18 ∷ 19 ∷ []) $ split ! $ move ! (1 ∷ []) $ drop ! $ move ! (1 ∷ []) $ fsplit ! $ move ! (1 ∷ []) $ fsplit ! $ drop ! $
+          drop ! $ fjoin ! $ filled l0 l1 l2 l3 l4 l5 l6 l7 l8)))))))))
 
 module _ {M : Type 1} (𝓤 : URA M) (H : Heap 𝓤) (A : Atoms 𝓤) (W : Given 𝓤 H A) (mem : Memory → SProp 𝓤) (run : Routine → Fun 𝓤) where
   listed-walks : (𝓣 : Tables 𝓤 H) → Triple 𝓤 (𝓣 .C #records·put-list) (C-put-list 𝓤 H A mem run)

@@ -58,6 +58,7 @@ use denote.Triple.Table.{entered, cited}
 use denote.Triple.Walked.{says, needs, Stays, stay-slice, stay-none-slice, stay-none, walkOf, goes-slice, goes-none-slice, goes-none, Walks}
 use denote.Triple.Walked.{ends-at, walked, walk-meets}
 use denote.Exit.{yes}
+use Rattle.rules.specs.Sizes.{recordSize}
 use Rattle.rules.specs.declared.Record.{Record}
 use Rattle.rules.proofs.Record as T
 use Rattle.rules.proofs.Record.Laws as T′
@@ -88,8 +89,12 @@ Nth 𝓤 H A mem run = tripleOf 𝓤 H A nth.signature (nth.spec 𝓤 H A mem ru
 abbrev Callable : (ns : List ℤ) → ℕ → List Record → Type 0
 Callable ns n ys = (n ≤ length ys) × ((i : ℕ) → i < n → RecordPlaces ns i)
 
+-- the bytes of a record
+abbrev bytes : ℕ
+bytes = 8 * recordSize
+
 -- the bytes before a record of the list can be counted, and a place below n has a next one
-mul-fits : {i n l : ℕ} → l * 48 < 2 ^ 63 → i < n → n ≤ l → i * 48 < 2 ^ 64
+mul-fits : {i n l : ℕ} → l * bytes < 2 ^ 63 → i < n → n ≤ l → i * bytes < 2 ^ 64
 mul-fits room less fits = omega arith
 
 next-fits : {i n : ℕ} → n < 2 ^ 64 → i < n → i + 1 < 2 ^ 64
@@ -293,7 +298,7 @@ module _ {M : Type 1} (𝓤 : URA M) (H : Heap 𝓤) (A : Atoms 𝓤) (W : Given
             (from ! (stop !)) (init ! 7 refl (tt, record { fits = mul-fits (room .1) less fits })) $
             assigns ! (bin ! (load ! (from ! (fld ! refl (stop !))) (look-in ! 19 (sub ! 0 refl (whole !))))
             (load ! (from ! (stop !)) (look ! 7 refl)) tt) (from ! (stop !)) (init ! 5 refl (tt, tt)) $
-            rewrite ! 5 (λ (p : ℕ). ‵ (fat fullShare tyPtr l₈ 0 (vptr b p))) (sym (place-is 48 o (i .0))) refl $ move ! (1 ∷ []) $
+            rewrite ! 5 (λ (p : ℕ). ‵ (fat fullShare tyPtr l₈ 0 (vptr b p))) (sym (place-is bytes o (i .0))) refl $ move ! (1 ∷ []) $
             elem-out ! R (Is R) (shows 𝓤 H A R) (LL.vals T.the-type T′.the-laws) (LL.tells T.the-type T′.the-laws) fullShare (w (i .0))
             (i .0) (f (i .0)) b o within (λ _.
             -- [list[i]; what it owns; the others; the parameters and their tokens; the open borrow; obs; auth; the locals]

@@ -7,6 +7,7 @@ use mir.Syntax.{w64}
 use mir.Val.{Fits}
 use mir.Facts.{fits-natAbs}
 use Rattle.integers.proofs.Integers.{back}
+use Rattle.rules.specs.Sizes.{recordSize}
 use Rattle.ledger.specs.RecordNumbers.{recordAt}
 use borrow.Author.Needs.{needs}
 use Rattle.ledger.proofs.records.record_at.Statement.{statement}
@@ -28,7 +29,7 @@ cast-t7 : tie.Need-cast-t7
 cast-t7 c =
     let start : tie.Start = search in
     let h = start .pre .kind in
-    rw (back _ (c .t6 .given)) (h, unsigned (getD (start .args .numbers .now) (start .args .i * 6) (pos 0)) (c .t6 .given))
+    rw (back _ (c .t6 .given)) (h, unsigned (getD (start .args .numbers .now) (start .args .i * recordSize) (pos 0)) (c .t6 .given))
 
 add-t8 : tie.Need-add-t8
 add-t8 c = search needs
@@ -43,7 +44,7 @@ cast-t12 : tie.Need-cast-t12
 cast-t12 c =
     let start : tie.Start = search in
     let h = start .pre .supplier in
-    rw (back _ (c .t11 .given)) (h, unsigned (getD (start .args .numbers .now) (start .args .i * 6 + 1) (pos 0)) (c .t11 .given))
+    rw (back _ (c .t11 .given)) (h, unsigned (getD (start .args .numbers .now) (start .args .i * recordSize + 1) (pos 0)) (c .t11 .given))
 
 add-t13 : tie.Need-add-t13
 add-t13 c = search needs
@@ -58,7 +59,7 @@ cast-t17 : tie.Need-cast-t17
 cast-t17 c =
     let start : tie.Start = search in
     let h = start .pre .element in
-    rw (back _ (c .t16 .given)) (h, unsigned (getD (start .args .numbers .now) (start .args .i * 6 + 2) (pos 0)) (c .t16 .given))
+    rw (back _ (c .t16 .given)) (h, unsigned (getD (start .args .numbers .now) (start .args .i * recordSize + 2) (pos 0)) (c .t16 .given))
 
 add-t18 : tie.Need-add-t18
 add-t18 c = search needs
@@ -91,23 +92,68 @@ cast-t30 : tie.Need-cast-t30
 cast-t30 c =
     let start : tie.Start = search in
     let h = start .pre .billionths in
-    rw (back _ (c .t29 .given)) (h, unsigned (getD (start .args .numbers .now) (start .args .i * 6 + 5) (pos 0)) (c .t29 .given))
+    rw (back _ (c .t29 .given)) (h, unsigned (getD (start .args .numbers .now) (start .args .i * recordSize + 5) (pos 0)) (c .t29 .given))
+
+add-t31 : tie.Need-add-t31
+add-t31 c = search needs
+
+mul-t32 : tie.Need-mul-t32
+mul-t32 c = search needs
+
+shared-slice-copy-out-t34 : tie.Need-shared-slice-copy-out-t34
+shared-slice-copy-out-t34 c = search needs
+
+add-t35 : tie.Need-add-t35
+add-t35 c = search needs
+
+mul-t36 : tie.Need-mul-t36
+mul-t36 c = search needs
+
+shared-slice-copy-out-t38 : tie.Need-shared-slice-copy-out-t38
+shared-slice-copy-out-t38 c = search needs
+
+add-t39 : tie.Need-add-t39
+add-t39 c = search needs
+
+mul-t40 : tie.Need-mul-t40
+mul-t40 c = search needs
+
+shared-slice-copy-out-t42 : tie.Need-shared-slice-copy-out-t42
+shared-slice-copy-out-t42 c = search needs
+
+cast-t43 : tie.Need-cast-t43
+cast-t43 c =
+    let start : tie.Start = search in
+    let h = start .pre .balance in
+    rw (back _ (c .t42 .given)) (h, unsigned (getD (start .args .numbers .now) (start .args .i * recordSize + 8) (pos 0)) (c .t42 .given))
 
 returns : tie.Need-returns
 unfolding recordAt
 returns c =
-    let t6 : tie.After-t6 = search in
-    let t11 : tie.After-t11 = search in
-    let t16 : tie.After-t16 = search in
+    let t38 : tie.After-t38 = search in
+    let t34 : tie.After-t34 = search in
+    let t29 : tie.After-t29 = search in
+    let t25 : tie.After-t25 = search in
     let t21 : tie.After-t21 = search in
-    rw (
-      back _ (t6 .t6 .given),
-      back _ (t11 .t11 .given),
-      back _ (t16 .t16 .given),
-      back _ (t21 .t21 .given),
-      back _ (c .before .t25 .given),
-      back _ (c .t29 .given),
-    )
+    let t16 : tie.After-t16 = search in
+    let t11 : tie.After-t11 = search in
+    let t6 : tie.After-t6 = search in
+    let start : tie.Start = search in
+    let ns = start .args .numbers .now in
+    let at = start .args .i * recordSize in
+    λ i. record {
+      kind = natAbs (back (getD ns at (pos 0)) (t6 .t6 .given) i);
+      supplier = natAbs (back (getD ns (at + 1) (pos 0)) (t11 .t11 .given) i);
+      element = natAbs (back (getD ns (at + 2) (pos 0)) (t16 .t16 .given) i);
+      quantity = back (getD ns (at + 3) (pos 0)) (t21 .t21 .given) i;
+      kroner = back (getD ns (at + 4) (pos 0)) (t25 .t25 .given) i;
+      billionths = natAbs (back (getD ns (at + 5) (pos 0)) (t29 .t29 .given) i);
+      balance = record {
+        quantity = back (getD ns (at + 6) (pos 0)) (t34 .t34 .given) i;
+        kroner = back (getD ns (at + 7) (pos 0)) (t38 .t38 .given) i;
+        billionths = natAbs (back (getD ns (at + 8) (pos 0)) (c .t42 .given) i);
+      };
+    }
 
 pub record-at-spec : {M : Type 1} → statement M
 record-at-spec =
@@ -135,4 +181,14 @@ record-at-spec =
     mul-t27
     shared-slice-copy-out-t29
     cast-t30
+    add-t31
+    mul-t32
+    shared-slice-copy-out-t34
+    add-t35
+    mul-t36
+    shared-slice-copy-out-t38
+    add-t39
+    mul-t40
+    shared-slice-copy-out-t42
+    cast-t43
     returns)

@@ -1,15 +1,13 @@
--- The six numbers are stored one behind the other.
+-- The nine numbers are stored one behind the other.
 use lib.IntN.{pos}
 use lib.ListN.{length-set}
 use Rattle.integers.proofs.Integers.{abs-back, cast-is}
 use Rattle.ledger.specs.RecordNumbers.{recordNumbers}
-use Rattle.ledger.proofs.RecordNumbers.{six-stores}
+use Rattle.ledger.proofs.RecordNumbers.{nine-stores}
 use native.Mathlib.Omega.{arith}
 use borrow.Author.Needs.{needs}
 use Rattle.ledger.proofs.rounds.put_record.Statement.{statement}
 use Rattle.ledger.proofs.rounds.put_record.Tie as tie
-use Rattle.ledger.proofs.rounds.put_record.Reads as reads
-use Rattle.ledger.proofs.rounds.put_record.Lts as lts
 
 cast-kind : tie.Need-cast-kind
 cast-kind c = search needs
@@ -22,6 +20,9 @@ cast-element c = search needs
 
 cast-billionths : tie.Need-cast-billionths
 cast-billionths c = search needs
+
+cast-balance-billionths : tie.Need-cast-balance-billionths
+cast-balance-billionths c = search needs
 
 mul-kind : tie.Need-mul-kind
 mul-kind c = search needs
@@ -74,6 +75,33 @@ mul-billionths c = search needs
 slice-set-from-billionths : tie.Need-slice-set-from-billionths
 slice-set-from-billionths c = simp length-set (omega arith)
 
+add-balance-quantity : tie.Need-add-balance-quantity
+add-balance-quantity c = search needs
+
+mul-balance-quantity : tie.Need-mul-balance-quantity
+mul-balance-quantity c = search needs
+
+slice-set-from-balance-quantity : tie.Need-slice-set-from-balance-quantity
+slice-set-from-balance-quantity c = simp length-set (omega arith)
+
+add-balance-kroner : tie.Need-add-balance-kroner
+add-balance-kroner c = search needs
+
+mul-balance-kroner : tie.Need-mul-balance-kroner
+mul-balance-kroner c = search needs
+
+slice-set-from-balance-kroner : tie.Need-slice-set-from-balance-kroner
+slice-set-from-balance-kroner c = simp length-set (omega arith)
+
+add-balance-billionths : tie.Need-add-balance-billionths
+add-balance-billionths c = search needs
+
+mul-balance-billionths : tie.Need-mul-balance-billionths
+mul-balance-billionths c = search needs
+
+slice-set-from-balance-billionths : tie.Need-slice-set-from-balance-billionths
+slice-set-from-balance-billionths c = simp length-set (omega arith)
+
 same-length : tie.Need-same-length
 same-length c = simp length-set
 
@@ -83,6 +111,7 @@ returns c =
     let start : tie.Start = search in
     let x = start .args in
     let a = x .r in
+    let b = a .balance in
     let h = start .pre .0 in
     rw (
       cast-is (a .kind) (h .kind),
@@ -91,8 +120,11 @@ returns c =
       abs-back (a .quantity) (h .quantity),
       abs-back (a .kroner) (h .kroner),
       cast-is (a .billionths) (h .billionths),
-    ) (six-stores (x .out .now) (x .at) (pos (a .kind)) (pos (a .supplier)) (pos (a .element)) (a .quantity) (a .kroner)
-    (pos (a .billionths)))
+      abs-back (b .quantity) (h .balance-quantity),
+      abs-back (b .kroner) (h .balance-kroner),
+      cast-is (b .billionths) (h .balance-billionths),
+    ) (nine-stores (x .out .now) (x .at) (pos (a .kind)) (pos (a .supplier)) (pos (a .element)) (a .quantity) (a .kroner)
+    (pos (a .billionths)) (b .quantity) (b .kroner) (pos (b .billionths)))
 
 pub put-record-spec : {M : Type 1} → statement M
 put-record-spec =
@@ -102,6 +134,7 @@ put-record-spec =
     cast-supplier
     cast-element
     cast-billionths
+    cast-balance-billionths
     mul-kind
     slice-set-from-kind
     add-supplier
@@ -119,5 +152,14 @@ put-record-spec =
     add-billionths
     mul-billionths
     slice-set-from-billionths
+    add-balance-quantity
+    mul-balance-quantity
+    slice-set-from-balance-quantity
+    add-balance-kroner
+    mul-balance-kroner
+    slice-set-from-balance-kroner
+    add-balance-billionths
+    mul-balance-billionths
+    slice-set-from-balance-billionths
     same-length
     returns)

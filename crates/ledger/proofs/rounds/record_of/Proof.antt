@@ -10,58 +10,69 @@ use borrow.Author.Needs.{needs}
 use Rattle.ledger.proofs.rounds.record_of.Statement.{statement}
 use Rattle.ledger.proofs.rounds.record_of.Tie as tie
 
-mul-moved-by : tie.Need-mul-moved-by
-mul-moved-by c = search needs
+mul-at : tie.Need-mul-at
+mul-at c = search needs
 
 moved-by-requires : tie.Need-moved-by-requires
-moved-by-requires c κs = c .pre .compared
+moved-by-requires c κs = search needs
+
+line-at-requires : tie.Need-line-at-requires
+line-at-requires c κs = search needs
 
 has-elements : (c : tie.Start) → 0 < c .args .book .elements
 has-elements c = factor (c .args .k) (c .args .book .suppliers) (c .args .book .elements) (c .pre .below)
 
-div-t8 : tie.Need-div-t8
-div-t8 c = has-elements (c .before .before)
+div-t9 : tie.Need-div-t9
+div-t9 c = let start : tie.Start = search in has-elements start
 
-add-t9 : tie.Need-add-t9
-add-t9 c =
-    let s = c .before .before in
-    let b = s .args .book in
-    let p = s .pre in
+add-t10 : tie.Need-add-t10
+add-t10 c =
+    let start : tie.Start = search in
+    let b = start .args .book in
+    let p = start .pre in
     record {
       fits = omega (
         arith,
-        div-le-self (s .args .k) (b .elements),
+        div-le-self (start .args .k) (b .elements),
         few-lines (b .suppliers) (b .elements) (p .suppliers) (p .elements),
       );
     }
 
-rem-t10 : tie.Need-rem-t10
-rem-t10 c = has-elements (c .before .before .before)
+rem-t11 : tie.Need-rem-t11
+rem-t11 c = let start : tie.Start = search in has-elements start
 
 returns : tie.Need-returns
 returns c =
-    let m = c .before .before .before in
-    let s = m .before in
-    let b = s .args .book in
-    let p = s .pre in
-    let g = m .moved-by .ensures in
+    let start : tie.Start = search in
+    let moved : tie.After-moved-by = search in
+    let stands : tie.After-line-at = search in
+    let b = start .args .book in
+    let p = start .pre in
+    let g = moved .moved-by .ensures in
+    let l = stands .line-at .ensures in
     let n = few-lines (b .suppliers) (b .elements) (p .suppliers) (p .elements) in
-    let h = mod-lt (s .args .k) (has-elements s) in
-    let l = p .elements in
+    let h = mod-lt (start .args .k) (has-elements start) in
+    let e = p .elements in
     rw (
-      abs-back (m .moved-by .result .quantity) (omega (arith, g .quantity-small)),
-      abs-back (m .moved-by .result .kroner) (omega (arith, g .kroner-small)),
+      abs-back (moved .moved-by .result .quantity) (omega (arith, g .quantity-small)),
+      abs-back (moved .moved-by .result .kroner) (omega (arith, g .kroner-small)),
+      abs-back (stands .line-at .result .quantity) (omega (arith, l .quantity-small)),
+      abs-back (stands .line-at .result .kroner) (omega (arith, l .kroner-small)),
     ) (
       record {
         kind = omega (arith, p .round-high);
-        supplier = omega (arith, div-le-self (s .args .k) (b .elements), p .below);
+        supplier = omega (arith, div-le-self (start .args .k) (b .elements), p .below);
         element = omega arith;
         quantity = omega (arith, g .quantity-small);
         kroner = omega (arith, g .kroner-small);
         billionths = omega (arith, g .form);
+        balance-quantity = omega (arith, l .quantity-small);
+        balance-kroner = omega (arith, l .kroner-small);
+        balance-billionths = omega (arith, l .form);
       },
-      record-is b _ _ (s .args .k) (m .moved-by .result) _ _ g,
+      record-is b _ _ (start .args .k) (moved .moved-by .result) (stands .line-at .result) _ _ _ _ g l,
     )
 
 pub record-of-spec : {M : Type 1} → statement M
-record-of-spec = tie.close (tie.spec mul-moved-by moved-by-requires div-t8 add-t9 rem-t10 returns)
+record-of-spec =
+    tie.close (tie.spec mul-at moved-by-requires line-at-requires div-t9 add-t10 rem-t11 returns)

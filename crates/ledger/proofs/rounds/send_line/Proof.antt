@@ -2,6 +2,7 @@
 use mathlib.Core.Path.{sym, _∙_}
 use Rattle.rules.proofs.Parts.{few-lines}
 use Rattle.ledger.proofs.RoundLaws.{copied-same}
+use native.Mathlib.Omega.{arith}
 use borrow.Author.Needs.{needs}
 use Rattle.ledger.proofs.rounds.send_line.Statement.{statement}
 use Rattle.ledger.proofs.rounds.send_line.Tie as tie
@@ -36,7 +37,8 @@ put-record-requires c κs =
     let start : tie.Start = search in
     let asked : tie.After-is-unmoved = search in
     let else1 : tie.Else1 = search in
-    (c .record-of .ensures .0, start .pre .1 .1 (sym (asked .is-unmoved .ensures) ∙ else1 .if1 .left))
+    let room = start .pre .1 .1 (sym (asked .is-unmoved .ensures) ∙ else1 .if1 .left) in
+    (c .record-of .ensures .0, omega arith)
 
 copy-line-requires : tie.Need-copy-line-requires
 copy-line-requires c κs = let start : tie.Start = search in (start .pre .0 .compared .line, start .pre .0 .compared .total)
