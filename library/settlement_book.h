@@ -105,15 +105,20 @@
  *    1  kroner
  *    2  billionths of a krone, 0 to 999,999,999, counting upwards from the kroner
  *
- * A record, how much a line has moved since the last round:
+ * A record, how much a line has moved since the last round, and its balance: the line after the round, to which its records so far add up:
  *    0  kind: 1 fixing, 2 refixing, 3 any later
  *    1  supplier
  *    2  element
  *    3  quantity
  *    4  kroner
- *    5  billionths */
+ *    5  billionths
+ *    6  balance, quantity
+ *    7  balance, kroner
+ *    8  balance, billionths */
 #define SETTLEMENT_BOOK_LINE_SIZE 3
-#define SETTLEMENT_BOOK_RECORD_SIZE 6
+#define SETTLEMENT_BOOK_RECORD_SIZE 9
+/* where the balance begins in a record; it has the numbers of a line */
+#define SETTLEMENT_BOOK_RECORD_BALANCE 6
 
 /* ---- the functions
  *
@@ -139,7 +144,7 @@ uint64_t settlement_book_open(
 
 /* Takes a message. Answers 0, or 2 to 18.
  * At 0 book and tables are as the message leaves them, *count is how many records there are, which is 0 but for a round, and the records
- * stand at the front of the list, six numbers each; what is behind them is as it was lent. A list holds a sixth of its length of records,
+ * stand at the front of the list, nine numbers each; what is behind them is as it was lent. A list holds a ninth of its length of records,
  * and a round has at most one for each supplier and element; only a round needs a list. */
 uint64_t settlement_book_message(
     uint64_t *book, size_t book_length,

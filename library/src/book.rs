@@ -17,14 +17,15 @@
 //!   or `&self` holds them for the time of the call. Every number is an integer of
 //!   the same width on both sides, and no pointer is kept.
 
-use crate::{Counts, Element, Fields, Line, Month, Period, Question, Record};
+use crate::{Counts, Element, Fields, Line, Month, Period, Question, RECORD_SIZE, Record};
 use settlement_file::days_in_month;
 
-/// The numbers of a book, of a message, of a line and of a record.
+/// The numbers of a book, of a message and of a line.
 const BOOK_SIZE: usize = 11;
 const FIELDS_SIZE: usize = 9;
 const LINE_SIZE: usize = 3;
-const RECORD_SIZE: usize = 6;
+// The list of records is lent as the numbers that its records are.
+const _: () = assert!(size_of::<Record>() == RECORD_SIZE * size_of::<i64>());
 /// Places for periods, for holders and for states.
 const PLACES: u64 = 1024;
 /// What stands for no day: the number behind the last day.
@@ -235,7 +236,7 @@ impl Book {
             fields.value,
         ];
         let mut count = 0;
-        // A record is six numbers of 64 bits, each of which may be anything.
+        // A record is numbers of 64 bits, each of which may be anything.
         let records = self.records.as_mut_ptr().cast();
         let length = self.records.len() * RECORD_SIZE;
         let (message, size) = (fields.as_ptr(), fields.len());
@@ -547,6 +548,45 @@ mod tests {
             slip(&mut wrong);
             assert_eq!(periods_lent(&wrong, 0, 0), (question, 6, 7, 0));
         }
+    }
+
+    /// A round that is refused leaves the list: by its sender, and where the list has no
+    /// room for the second of its two records. With room it writes both.
+    #[test]
+    fn a_refused_round_leaves_the_list() {
+        let mut book = book_of(1, 2);
+        for message in [
+            Fields::from([4, 2, 0, 8826, 0, 0, 8826, 0, 1]),
+            link(0, 0, 8826),
+            link(0, 1, 8830),
+        ] {
+            assert_eq!(book.message(&message), Ok(&[][..]));
+        }
+        let mut round = |role, length| {
+            let mut count = 7;
+            let fields = [8, role, 0, 8826, 0, 0, 0, 0, 0];
+            let (message, size) = (fields.as_ptr(), fields.len());
+            let mut records = [5i64; 3 * RECORD_SIZE];
+            let list = records.as_mut_ptr();
+            let answer = unsafe {
+                write_with!(
+                    book,
+                    settlement_book_message(list, length, message, size, &mut count)
+                )
+            };
+            (answer, count, records)
+        };
+        let untouched = [5; 3 * RECORD_SIZE];
+        assert_eq!(round(1, 3 * RECORD_SIZE), (9, 7, untouched));
+        for length in [0, RECORD_SIZE, 2 * RECORD_SIZE - 1] {
+            assert_eq!(round(2, length), (18, 7, untouched));
+        }
+        let (answer, count, records) = round(2, 2 * RECORD_SIZE);
+        assert_eq!((answer, count), (0, 2));
+        let (written, behind) = records.split_at(2 * RECORD_SIZE);
+        let expected = [0, 1].map(|element| [1, 1, element, 1, 0, 0, 1, 0, 0]);
+        assert_eq!(written, expected.as_flattened());
+        assert_eq!(behind, [5; RECORD_SIZE]);
     }
 
     /// The search by itself: what stands behind the first period beyond the point and

@@ -1,6 +1,6 @@
 //! The book as one that a file is settled with.
 
-use crate::{Book, Counts, Element, Fields, Month, Question, Record};
+use crate::{Book, Counts, Element, Fields, Month, Question, RECORD_SIZE, Record};
 use settlement_file::Settle;
 
 impl Settle for Book {
@@ -18,7 +18,11 @@ impl Settle for Book {
     }
 
     #[inline]
-    fn message(&mut self, fields: &[u64; 9], each: impl FnMut([i64; 6])) -> Result<(), u64> {
+    fn message(
+        &mut self,
+        fields: &[u64; 9],
+        each: impl FnMut([i64; RECORD_SIZE]),
+    ) -> Result<(), u64> {
         let records = Book::message(self, &Fields::from(*fields)).map_err(Question::number)?;
         records.iter().map(Record::numbers).for_each(each);
         Ok(())

@@ -39,7 +39,7 @@ mod question;
 
 pub use book::Book;
 pub use question::Question;
-pub use settlement_file::{Counts, Element, Month};
+pub use settlement_file::{Counts, Element, Month, RECORD_SIZE};
 
 /// A message as it comes; the fields that its kind does not use are 0.
 #[derive(Clone, Copy, Debug, Default, PartialEq, Eq)]
@@ -86,8 +86,8 @@ impl From<[u64; 9]> for Fields {
     }
 }
 
-/// One difference that a round sends. Its fields lie as the exported functions
-/// write a record: six numbers of 64 bits.
+/// One difference that a round sends, and what the line stands at after it. Its fields
+/// lie as the exported functions write a record: [`RECORD_SIZE`] numbers of 64 bits.
 #[derive(Clone, Copy, Debug, Default, PartialEq, Eq)]
 #[repr(C)]
 pub struct Record {
@@ -99,11 +99,16 @@ pub struct Record {
     pub kroner: i64,
     /// 0 to 999,999,999, counting upwards from the kroner.
     pub billionths: u64,
+    /// The line's quantity after the round.
+    pub balance_quantity: i64,
+    pub balance_kroner: i64,
+    /// 0 to 999,999,999, counting upwards from the kroner.
+    pub balance_billionths: u64,
 }
 
 impl Record {
     /// The fields in their order.
-    pub fn numbers(&self) -> [i64; 6] {
+    pub fn numbers(&self) -> [i64; RECORD_SIZE] {
         [
             self.kind as i64,
             self.supplier as i64,
@@ -111,6 +116,9 @@ impl Record {
             self.quantity,
             self.kroner,
             self.billionths as i64,
+            self.balance_quantity,
+            self.balance_kroner,
+            self.balance_billionths as i64,
         ]
     }
 }

@@ -1,6 +1,6 @@
-//! Document 01's listing through the library, what it refuses, the earliest day without
-//! a holder, how many periods the query for them reads, and its two forms of each call
-//! against each other.
+//! Document 01's listing through the library, what it refuses, the balances of records,
+//! the earliest day without a holder, how many periods the query for them reads, and its
+//! two forms of each call against each other.
 
 use std::collections::BTreeMap;
 
@@ -66,31 +66,51 @@ fn listing() -> Book {
     book
 }
 
-fn record(kind: u64, supplier: u64, element: u64, numbers: (i64, i64, u64)) -> Record {
+/// A record of a line: kind, supplier and element, then quantity, kroner and billionths
+/// of the difference and of the balance.
+fn record(line: (u64, u64, u64), moved: (i64, i64, u64), balance: (i64, i64, u64)) -> Record {
     Record {
-        kind,
-        supplier,
-        element,
-        quantity: numbers.0,
-        kroner: numbers.1,
-        billionths: numbers.2,
+        kind: line.0,
+        supplier: line.1,
+        element: line.2,
+        quantity: moved.0,
+        kroner: moved.1,
+        billionths: moved.2,
+        balance_quantity: balance.0,
+        balance_kroner: balance.1,
+        balance_billionths: balance.2,
     }
+}
+
+/// The line that a record's balance names.
+fn balance(record: &Record) -> Line {
+    Line {
+        quantity: record.balance_quantity,
+        kroner: record.balance_kroner,
+        billionths: record.balance_billionths,
+    }
+}
+
+fn round() -> Fields {
+    told(8, 2, 0, 0, 0, 0)
 }
 
 #[test]
 fn the_listing_gives_its_records() {
     let mut book = listing();
-    let round = told(8, 2, 0, 0, 0, 0);
+    let round = round();
     let fixing = [
-        record(1, 1, 0, (30, 19, 354_830_000)),
-        record(1, 1, 1, (1000, 0, 500_000_000)),
-        record(1, 2, 0, (32, 20, 645_152_000)),
-        record(1, 2, 1, (3000, 1, 500_000_000)),
+        ((1, 1, 0), (30, 19, 354_830_000)),
+        ((1, 1, 1), (1000, 0, 500_000_000)),
+        ((1, 2, 0), (32, 20, 645_152_000)),
+        ((1, 2, 1), (3000, 1, 500_000_000)),
     ];
+    // At the fixing nothing was sent before.
+    let fixing = fixing.map(|(line, moved)| record(line, moved, moved));
     assert_eq!(book.message(&round), Ok(&fixing[..]));
     assert_eq!(book.message(&told(6, 1, 0, 8841, 0, 2500)), Ok(&[][..]));
-    let refixing = [record(2, 2, 1, (-500, -1, 750_000_000))];
-    assert_eq!(book.message(&round), Ok(&refixing[..]));
+    let refixing = record((2, 2, 1), (-500, -1, 750_000_000), (2500, 1, 250_000_000));
+    assert_eq!(book.message(&round), Ok(&[refixing][..]));
     let again = told(1, 1, 0, 8830, 0, 1);
     assert_eq!(book.message(&again), Err(Question::AlreadyLinked));
     // The kind advances even where there is nothing to send.
@@ -102,6 +122,99 @@ fn the_listing_gives_its_records() {
     };
     assert_eq!(book.line(2, 1), Ok(line));
     assert_eq!(book.line_checked(2, 1), Ok(line));
+}
+
+/// Sends a round, and compares its records with these and their balances with the lines.
+fn round_gives(book: &mut Book, expected: &[Record]) {
+    let found = book.message(&round()).unwrap().to_vec();
+    assert_eq!(found.len(), expected.len());
+    for (found, expected) in found.iter().zip(expected) {
+        assert_eq!(found, expected);
+        assert_balance_is_line(book, found);
+    }
+}
+
+fn assert_balance_is_line(book: &Book, record: &Record) {
+    let line = book.line(record.supplier, record.element);
+    assert_eq!(line, Ok(balance(record)), "{record:?}");
+}
+
+#[test]
+fn a_line_that_returns_to_zero_says_so() {
+    let mut book = listing();
+    assert_eq!(book.message(&round()).unwrap().len(), 4);
+    tell(&mut book, told(6, 1, 0, 8841, 0, 0));
+    let back = record((2, 2, 1), (-3000, -2, 500_000_000), (0, 0, 0));
+    round_gives(&mut book, &[back]);
+    round_gives(&mut book, &[]);
+    // The next record of the line begins at zero; that of the other, which had none in
+    // two rounds, includes the fixing's.
+    tell(&mut book, told(6, 1, 0, 8841, 0, 700));
+    tell(&mut book, told(6, 1, 0, 8840, 0, 200));
+    let kept = record((3, 1, 1), (200, 0, 100_000_000), (1200, 0, 600_000_000));
+    let anew = record((3, 2, 1), (700, 0, 350_000_000), (700, 0, 350_000_000));
+    round_gives(&mut book, &[kept, anew]);
+}
+
+/// A tariff with a krone a kWh in hour 0 and minus three in hour 1.
+#[test]
+fn balances_below_zero_count_their_billionths_upwards() {
+    let mut prices = prices(&[1_000_000]);
+    prices[1] = -3_000_000;
+    let hourly = [element(3, 1, 8)];
+    let mut book = Book::open(MARCH, counts(1, 1, 1), &hourly, &prices).unwrap();
+    for message in [state(FIRST, CONNECTED), holder(FIRST, 1), link(0, FIRST)] {
+        tell(&mut book, message);
+    }
+    let mut read = |kind, hour, wh, moved, balance| {
+        tell(&mut book, told(6, 1, 0, 8840, hour, wh));
+        round_gives(&mut book, &[record((kind, 1, 0), moved, balance)]);
+    };
+    // -0.3; a krone more; 1.5 less; 0.3 more, below zero still; back to zero in the amount.
+    read(1, 1, 100, (100, -1, 700_000_000), (100, -1, 700_000_000));
+    read(2, 0, 1000, (1000, 1, 0), (1100, 0, 700_000_000));
+    read(3, 1, 600, (500, -2, 500_000_000), (1600, -1, 200_000_000));
+    read(3, 1, 500, (-100, 0, 300_000_000), (1500, -1, 500_000_000));
+    read(3, 0, 1500, (500, 0, 500_000_000), (2000, 0, 0));
+}
+
+/// 16 suppliers and 64 elements of e kroner a day. Supplier p + 1 holds point p, until
+/// supplier 1 gets all points from a later day on, and then from the first.
+#[test]
+fn the_fullest_list_carries_its_balances() {
+    let data = vec![element(1, 1, 0); 64];
+    let each: Vec<i64> = (0..64).map(|e| e * 31_000_000).collect();
+    let mut book = Book::open(MARCH, counts(16, 16, 64), &data, &prices(&each)).unwrap();
+    for point in 0..16 {
+        let links = (0..64).map(|e| link(e, FIRST));
+        let messages = [state(FIRST, CONNECTED), holder(FIRST, point + 1)];
+        for message in messages.into_iter().chain(links) {
+            tell(&mut book, Fields { point, ..message });
+        }
+    }
+    // Of each round the days that supplier 1 and the others have more, and then have.
+    let rounds = [
+        (1, None, (31, 31), (31, 31)),
+        (2, Some(LAST - 10), (165, 196), (-11, 20)),
+        (3, Some(FIRST), (300, 496), (-20, 0)),
+    ];
+    for (kind, day, of_first, of_others) in rounds {
+        for (point, day) in (1..16).filter_map(|point| Some((point, day?))) {
+            let message = holder(day, 1);
+            tell(&mut book, Fields { point, ..message });
+        }
+        let mut expected = Vec::new();
+        for supplier in 1..=16 {
+            let (more, now) = if supplier == 1 { of_first } else { of_others };
+            expected.extend((0..64).map(|e| {
+                let price = e as i64;
+                let (moved, balance) = ((more, more * price, 0), (now, now * price, 0));
+                record((kind, supplier, e), moved, balance)
+            }));
+        }
+        assert_eq!(expected.len(), 1024);
+        round_gives(&mut book, &expected);
+    }
 }
 
 /// What the query for periods answers, and how many periods it says that it read. Both
@@ -438,6 +551,9 @@ fn both_forms_of_each_call_agree() {
         accepted += u64::from(answer.is_ok());
         let other = checked.message_checked(&message).map(<[Record]>::to_vec);
         assert_eq!(answer, other, "{message:?}");
+        for record in answer.iter().flatten() {
+            assert_balance_is_line(&book, record);
+        }
         let (one, two) = (random.below(6), random.below(6));
         assert_eq!(book.line(one, two), checked.line_checked(one, two));
         let day = book.day_without_holder(one);
@@ -445,6 +561,67 @@ fn both_forms_of_each_call_agree() {
         assert_eq!(periods(&book, one, two), periods(&checked, one, two));
     }
     assert!(accepted > 5_000, "{accepted} accepted");
+}
+
+/// Quantity and billionths, of an amount in its one form.
+fn numbers_of(line: Line) -> (i64, i128) {
+    assert!(line.billionths < 1_000_000_000, "{line:?}");
+    let amount = i128::from(line.kroner) * 1_000_000_000 + i128::from(line.billionths);
+    (line.quantity, amount)
+}
+
+#[test]
+fn balances_are_the_lines_and_the_sums_of_records() {
+    let elements = [
+        element(1, 1, 0),
+        element(2, 1, 0),
+        element(3, 1, 0),
+        element(1, 1, 1),
+    ];
+    let prices = prices(&[21_000_000, 150_000_000, -30_000, -761_000]);
+    let mut random = Random(17);
+    let (mut zeros, mut negatives, mut without) = (0, 0, 0);
+    for _ in 0..60 {
+        let mut book = Book::open(MARCH, counts(4, 3, 4), &elements, &prices).unwrap();
+        // By supplier and element, of those that have records.
+        let mut sums = BTreeMap::new();
+        for _ in 0..500 {
+            let message = random.message();
+            let Ok(records) = book.message(&message).map(<[Record]>::to_vec) else {
+                continue;
+            };
+            if message.kind != 8 {
+                assert_eq!(records, []);
+                continue;
+            }
+            let mut passed = sums.clone();
+            for record in &records {
+                let place = (record.supplier, record.element);
+                passed.remove(&place);
+                let moved = numbers_of(Line {
+                    quantity: record.quantity,
+                    kroner: record.kroner,
+                    billionths: record.billionths,
+                });
+                assert_ne!(moved, (0, 0), "{record:?}");
+                let sum = sums.entry(place).or_insert((0, 0));
+                *sum = (sum.0 + moved.0, sum.1 + moved.1);
+                assert_eq!(numbers_of(balance(record)), *sum, "{record:?}");
+                assert_balance_is_line(&book, record);
+                zeros += u64::from(*sum == (0, 0));
+                negatives += u64::from(sum.1 < 0);
+            }
+            // A line without a record stands at its last balance.
+            for ((supplier, element), sum) in &passed {
+                let line = book.line(*supplier, *element).unwrap();
+                assert_eq!(numbers_of(line), *sum);
+            }
+            without += passed.len();
+        }
+    }
+    assert!(zeros > 100, "{zeros} balances of zero");
+    assert!(negatives > 100, "{negatives} balances below zero");
+    assert!(without > 100, "{without} lines without a record in a round");
 }
 
 /// What one point has heard: holders and states by first day, and of each element its

@@ -2,13 +2,13 @@
 
 use crate::growth::{Cost, costs};
 use crate::inputs::{Input, MOST_IN_BATCH, empty_rounds};
-use settlement_file::{Counts, Opening};
+use settlement_file::{Counts, Opening, RECORD_SIZE};
 use std::hint::black_box;
 use std::time::Instant;
 
-/// One difference that a round sends: kind, supplier, element, quantity, kroner
-/// and billionths.
-pub type Record = [i64; 6];
+/// One difference that a round sends, with the balance: kind, supplier and element, then
+/// quantity, kroner and billionths of each.
+pub type Record = [i64; RECORD_SIZE];
 
 pub trait Settlement: Sized {
     /// Of the line queries and of the rounds without differences, one in so many is

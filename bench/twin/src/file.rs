@@ -1,7 +1,7 @@
 //! The book as one that a file is settled with.
 
 use crate::book::{Book, Record, message, open};
-use settlement_file::{Counts, Element, Month, Settle};
+use settlement_file::{Counts, Element, Month, RECORD_SIZE, Settle};
 
 impl Settle for Book {
     fn open(
@@ -18,7 +18,11 @@ impl Settle for Book {
     }
 
     #[inline]
-    fn message(&mut self, fields: &[u64; 9], each: impl FnMut([i64; 6])) -> Result<(), u64> {
+    fn message(
+        &mut self,
+        fields: &[u64; 9],
+        each: impl FnMut([i64; RECORD_SIZE]),
+    ) -> Result<(), u64> {
         let mut records = Vec::new();
         match message(self, fields, &mut records) {
             0 => {

@@ -1,6 +1,8 @@
-//! Nothing panics whatever the fields, and the largest amounts are right.
+//! Nothing panics whatever the fields, balances are lines and sums of records, and the
+//! largest amounts are right.
 
 use settlement_file::{Counts, Element, Month, output};
+use std::collections::BTreeMap;
 use twin::{Book, Record, message, open};
 
 fn number(state: &mut u64) -> u64 {
@@ -66,11 +68,12 @@ fn any_fields() {
         month: 3,
     };
     let mut state = 1;
-    let mut accepted = 0;
+    let (mut accepted, mut zeros, mut negatives) = (0, 0, 0);
     for _ in 0..20 {
         let mut book = open(month, counts, &elements, &prices).expect("a right opening");
         let mut records: Vec<Record> = Vec::new();
-        for _ in 0..50_000 {
+        let mut sums: BTreeMap<(u8, u8), (i64, i128)> = BTreeMap::new();
+        for turn in 0..50_000 {
             let mut fields = [0; 9];
             for place in &mut fields {
                 *place = field(&mut state);
@@ -87,6 +90,10 @@ fn any_fields() {
                     fields[5] = 0;
                 }
             }
+            if turn % 10 == 9 {
+                // A round, which other numbers hardly ever are.
+                fields = [8, 2, 0, 8840, 0, 0, 0, 0, 0];
+            }
             let before = everything(&book);
             let answer = message(&mut book, &fields, &mut records);
             assert!(answer == 0 || (6..=17).contains(&answer));
@@ -94,12 +101,32 @@ fn any_fields() {
                 assert_eq!(everything(&book), before);
             }
             accepted += u64::from(answer == 0);
+            for record in records.drain(..) {
+                let Record {
+                    supplier,
+                    element,
+                    balance_quantity,
+                    balance_amount,
+                    ..
+                } = record;
+                let sum = sums.entry((supplier, element)).or_default();
+                sum.0 += record.quantity;
+                sum.1 += record.amount;
+                let line = book.line(supplier.into(), element.into());
+                let line = line.map(|line| (line.quantity, line.amount));
+                assert_eq!(line, Ok((balance_quantity, balance_amount)));
+                assert_eq!(line, Ok(*sum));
+                zeros += u64::from(*sum == (0, 0));
+                negatives += u64::from(sum.1 < 0);
+            }
             let _ = book.line(fields[2], fields[5]);
             let _ = book.periods(fields[4], fields[5]);
             let _ = book.day_without_holder(fields[4]);
         }
     }
     assert!(accepted > 10_000, "only {accepted} accepted");
+    assert!(zeros > 50, "only {zeros} balances of zero");
+    assert!(negatives > 100, "only {negatives} balances below zero");
 }
 
 #[test]
@@ -185,6 +212,9 @@ fn largest_month() {
         element,
         quantity,
         amount,
+        // Nothing was sent before.
+        balance_quantity: quantity,
+        balance_amount: amount,
     };
     let day_price = 322_580_645;
     assert_eq!(
@@ -199,4 +229,20 @@ fn largest_month() {
             ),
         ]
     );
+}
+
+#[test]
+fn a_record_in_numbers() {
+    // Minus a quarter of a krone, of a line that stands at minus one and three quarters.
+    let record = Record {
+        kind: 3,
+        supplier: 16,
+        element: 63,
+        quantity: 250,
+        amount: -250_000_000,
+        balance_quantity: 1750,
+        balance_amount: -1_750_000_000,
+    };
+    let expected = [3, 16, 63, 250, -1, 750_000_000, 1750, -2, 250_000_000];
+    assert_eq!(record.numbers(), expected);
 }

@@ -9,7 +9,7 @@ mod settle;
 
 pub use calendar::{DAY_COUNT, days_in_month, first_day};
 pub use fields::{Message, Messages, Opening};
-pub use settle::{Settle, output, print_month, print_record, program};
+pub use settle::{RECORD_SIZE, Settle, output, print_month, print_record, program};
 
 /// A calendar month: year 2000 to 2099, month 1 to 12.
 #[derive(Clone, Copy, Debug, PartialEq, Eq)]

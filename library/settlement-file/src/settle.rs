@@ -7,6 +7,11 @@ use std::process::ExitCode;
 /// The month and every count are within their limits.
 const OUT_OF_LIMITS: u64 = 2;
 
+/// The numbers of a record: kind, supplier and element; by how much the line differs
+/// from what was sent, in quantity, kroner and billionths; and its balance, which is the
+/// line after the round, in the same three.
+pub const RECORD_SIZE: usize = 9;
+
 /// A book that a file is settled with. An error is the number of the first question
 /// that says no.
 pub trait Settle: Sized {
@@ -22,9 +27,12 @@ pub trait Settle: Sized {
     fn dates(&self) -> (u64, u64);
 
     /// Takes a message of kind, role, sender, received, point, element, day, hour and
-    /// value. Where a round is accepted, hands out each of its records: kind, supplier,
-    /// element, quantity, kroner and billionths.
-    fn message(&mut self, fields: &[u64; 9], each: impl FnMut([i64; 6])) -> Result<(), u64>;
+    /// value. Where a round is accepted, hands out the numbers of each of its records.
+    fn message(
+        &mut self,
+        fields: &[u64; 9],
+        each: impl FnMut([i64; RECORD_SIZE]),
+    ) -> Result<(), u64>;
 }
 
 /// What `settle` prints for these bytes; `settle` takes at most 16 points.
@@ -63,13 +71,13 @@ pub fn print_month(printed: &mut Vec<u8>, Month { year, month }: Month, (days, f
     );
 }
 
-/// The line of a record: kind, supplier, element, quantity, kroner and billionths.
-pub fn print_record(printed: &mut Vec<u8>, record: [i64; 6]) {
-    let [kind, supplier, element, quantity, kroner, billionths] = record;
-    print(
-        printed,
-        format_args!("record {kind} {supplier} {element} {quantity} {kroner} {billionths}\n"),
-    );
+/// The line of a record: its numbers in their order.
+pub fn print_record(printed: &mut Vec<u8>, record: [i64; RECORD_SIZE]) {
+    print(printed, format_args!("record"));
+    for number in record {
+        print(printed, format_args!(" {number}"));
+    }
+    print(printed, format_args!("\n"));
 }
 
 fn print_refused(printed: &mut Vec<u8>, number: u64, question: u64) {
@@ -98,4 +106,20 @@ pub fn program<B: Settle>(name: &str) -> std::io::Result<ExitCode> {
     std::io::stdin().read_to_end(&mut bytes)?;
     std::io::stdout().write_all(&output::<B>(&bytes, most_points))?;
     Ok(ExitCode::SUCCESS)
+}
+
+#[cfg(test)]
+mod tests {
+    use super::*;
+
+    #[test]
+    fn a_record_is_a_line_of_its_numbers() {
+        let mut printed = b"before\n".to_vec();
+        print_record(
+            &mut printed,
+            [2, 2, 1, -500, -1, 750_000_000, 2500, 1, 250_000_000],
+        );
+        let expected = b"before\nrecord 2 2 1 -500 -1 750000000 2500 1 250000000\n";
+        assert_eq!(printed, expected);
+    }
 }

@@ -254,15 +254,6 @@ static void accepted(const char *what, const uint64_t fields[SETTLEMENT_BOOK_FIE
 
 static const uint64_t round_message[] = {8, 2, 0, FIRST_DAY, 0, 0, 0, 0, 0};
 
-/* A round with these records, and nothing written behind them. */
-static void round_with(const char *what, const int64_t *records, size_t count) {
-    message(what, round_message, SETTLEMENT_BOOK_ACCEPTED, WRITTEN | ONLY(COUNT) | ONLY(RECORDS));
-    size_t size = count * SETTLEMENT_BOOK_RECORD_SIZE * sizeof *records, from = place_of(RECORDS);
-    expect_number(what, "the count", (int64_t)*numbers(COUNT), (int64_t)count);
-    expect(what, "the records", memcmp(start[RECORDS], records, size) == 0);
-    expect(what, "what is behind them", memcmp(memory + from + size, copy + from + size, size_of(RECORDS) - size) == 0);
-}
-
 static void line_is(uint64_t supplier, uint64_t element, int64_t quantity, int64_t kroner, int64_t billionths) {
     asked_supplier = supplier;
     asked_element = element;
@@ -270,6 +261,19 @@ static void line_is(uint64_t supplier, uint64_t element, int64_t quantity, int64
     expect_number("line", "the quantity", amounts(LINE)[0], quantity);
     expect_number("line", "the kroner", amounts(LINE)[1], kroner);
     expect_number("line", "the billionths", amounts(LINE)[2], billionths);
+}
+
+/* A round with these records, and nothing written behind them. Each balance is the line as the query then answers. */
+static void round_with(const char *what, const int64_t *records, size_t count) {
+    message(what, round_message, SETTLEMENT_BOOK_ACCEPTED, WRITTEN | ONLY(COUNT) | ONLY(RECORDS));
+    size_t size = count * SETTLEMENT_BOOK_RECORD_SIZE * sizeof *records, from = place_of(RECORDS);
+    expect_number(what, "the count", (int64_t)*numbers(COUNT), (int64_t)count);
+    expect(what, "the records", memcmp(start[RECORDS], records, size) == 0);
+    expect(what, "what is behind them", memcmp(memory + from + size, copy + from + size, size_of(RECORDS) - size) == 0);
+    for (size_t i = 0; i < count; i++) {
+        const int64_t *record = records + i * SETTLEMENT_BOOK_RECORD_SIZE, *balance = record + SETTLEMENT_BOOK_RECORD_BALANCE;
+        line_is((uint64_t)record[1], (uint64_t)record[2], balance[0], balance[1], balance[2]);
+    }
 }
 
 static void line_refused(uint64_t supplier, uint64_t element, uint64_t question) {
@@ -353,12 +357,12 @@ static void worked_example(void) {
         {6, 1, 0, FIRST_DAY, 0, 0, 8841, 0, 3000},   /* 3,000 Wh */
     };
     static const int64_t fixing[][SETTLEMENT_BOOK_RECORD_SIZE] = {
-        {1, 1, 0, 30, 19, 354830000},
-        {1, 1, 1, 1000, 0, 500000000},
-        {1, 2, 0, 32, 20, 645152000},
-        {1, 2, 1, 3000, 1, 500000000},
+        {1, 1, 0, 30, 19, 354830000, 30, 19, 354830000},
+        {1, 1, 1, 1000, 0, 500000000, 1000, 0, 500000000},
+        {1, 2, 0, 32, 20, 645152000, 32, 20, 645152000},
+        {1, 2, 1, 3000, 1, 500000000, 3000, 1, 500000000},
     };
-    static const int64_t refixing[][SETTLEMENT_BOOK_RECORD_SIZE] = {{2, 2, 1, -500, -1, 750000000}};
+    static const int64_t refixing[][SETTLEMENT_BOOK_RECORD_SIZE] = {{2, 2, 1, -500, -1, 750000000, 2500, 1, 250000000}};
     static const uint64_t reading[] = {6, 1, 0, FIRST_DAY, 0, 0, 8841, 0, 2500};
     static const uint64_t again[] = {1, 1, 0, FIRST_DAY, 0, 0, 8830, 0, 1};
 
@@ -404,13 +408,38 @@ static void refused_messages(void) {
 /* A round whose record has no room, and the same with room for one. */
 static void short_list(void) {
     static const uint64_t reading[] = {6, 1, 0, FIRST_DAY, 0, 0, 8841, 0, 2600};
-    static const int64_t later[][SETTLEMENT_BOOK_RECORD_SIZE] = {{3, 2, 1, 100, 0, 50000000}};
+    static const int64_t later[][SETTLEMENT_BOOK_RECORD_SIZE] = {{3, 2, 1, 100, 0, 50000000, 2600, 1, 300000000}};
     accepted("reading before a short list", reading);
     length[RECORDS] = SETTLEMENT_BOOK_RECORD_SIZE - 1;
     message("round with a short list", round_message, 18, NOTHING);
     length[RECORDS] = SETTLEMENT_BOOK_RECORD_SIZE;
     round_with("round with room for one", later[0], 1);
     length[RECORDS] = shape[RECORDS].length;
+}
+
+/* Two lines return to zero after they had records, and one of them leaves it again. The rounds that are refused before it leave the list,
+ * the one that has room for the first record of the two as well. */
+static void balances_of_zero(void) {
+    static const uint64_t first_back[] = {6, 1, 0, FIRST_DAY, 0, 0, 8840, 23, 0};
+    static const uint64_t second_back[] = {6, 1, 0, FIRST_DAY, 0, 0, 8841, 0, 0};
+    static const uint64_t from_grid_company[] = {8, 1, 0, FIRST_DAY, 0, 0, 0, 0, 0};
+    static const int64_t zero[][SETTLEMENT_BOOK_RECORD_SIZE] = {
+        {3, 1, 1, -1000, -1, 500000000, 0, 0, 0},
+        {3, 2, 1, -2600, -2, 700000000, 0, 0, 0},
+    };
+    static const uint64_t reading[] = {6, 1, 0, FIRST_DAY, 0, 0, 8840, 23, 400};
+    static const int64_t again[][SETTLEMENT_BOOK_RECORD_SIZE] = {{3, 1, 1, 400, 0, 200000000, 400, 0, 200000000}};
+
+    accepted("reading of day 8840 taken back", first_back);
+    accepted("reading of day 8841 taken back", second_back);
+    message("round from the grid company", from_grid_company, 9, NOTHING);
+    length[RECORDS] = 2 * SETTLEMENT_BOOK_RECORD_SIZE - 1;
+    message("round with room for one of two", round_message, 18, NOTHING);
+    length[RECORDS] = shape[RECORDS].length;
+    round_with("round to zero", zero[0], sizeof zero / sizeof zero[0]);
+    round_with("round without a record", zero[0], 0);
+    accepted("reading after zero", reading);
+    round_with("round from zero", again[0], 1);
 }
 
 static void periods(void) {
@@ -499,6 +528,7 @@ int main(void) {
     worked_example();
     refused_messages();
     short_list();
+    balances_of_zero();
     periods();
     days_without_holder();
     wrong_lengths();

@@ -1,6 +1,6 @@
 //! From the bytes of a file to what `settle` prints for it.
 
-use crate::book::{Book, Record};
+use crate::book::{Book, Record, billionths, kroner};
 use crate::file::{Field, Reader};
 use std::fmt;
 
@@ -36,13 +36,16 @@ impl fmt::Display for Event {
             Event::Accepted { .. } => Ok(()),
             Event::Record(r) => writeln!(
                 f,
-                "record {} {} {} {} {} {}",
+                "record {} {} {} {} {} {} {} {} {}",
                 r.kind,
                 r.supplier,
                 r.element,
                 r.quantity,
-                r.kroner(),
-                r.billionths()
+                kroner(r.amount),
+                billionths(r.amount),
+                r.balance_quantity,
+                kroner(r.balance_amount),
+                billionths(r.balance_amount)
             ),
             Event::Refused { message, question } => writeln!(f, "refused {message} {question}"),
         }

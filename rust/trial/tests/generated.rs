@@ -1,8 +1,9 @@
 //! Generated files run without a panic, try every question that a file can
-//! reach, and are the same on every machine.
+//! reach, add up to their balances, and are the same on every machine.
 
 use fresh::Event;
-use trial::generator::generate;
+use std::collections::BTreeMap;
+use trial::generator::{generate, generate_large};
 use trial::survey::Survey;
 
 const QUESTIONS_OUT_OF_REACH: [usize; 3] = [3, 5, 18];
@@ -29,6 +30,68 @@ fn every_question_is_tried() {
         assert!(survey.records[kind] >= 500, "records of kind {kind}");
     }
     assert!(survey.negative_amounts >= 500);
+    // The situations in which a balance could be mistaken for something else.
+    assert!(survey.zero_balances >= 500);
+    assert!(survey.negative_balances >= 500);
+    assert!(survey.less_of_positive >= 500);
+    assert!(survey.more_of_negative >= 500);
+    assert!(survey.lines_without_record >= 500);
+    assert!(survey.later_records >= 500);
+}
+
+/// Each printed balance is the sum of what was printed for its line so far, and its
+/// amount has the one form that amounts have.
+fn assert_balances(printed: &str, seed: u64) {
+    let mut sums: BTreeMap<(i128, i128), (i128, i128)> = BTreeMap::new();
+    for line in printed.lines() {
+        let Some(numbers) = line.strip_prefix("record ") else {
+            continue;
+        };
+        let numbers: Result<Vec<i128>, _> = numbers.split(' ').map(str::parse).collect();
+        let [
+            _kind,
+            supplier,
+            element,
+            quantity,
+            kroner,
+            billionths,
+            balance_quantity,
+            balance_kroner,
+            balance_billionths,
+        ] = numbers.unwrap()[..]
+        else {
+            panic!("seed {seed}: {line}");
+        };
+        let (quantity_sum, amount_sum) = sums.entry((supplier, element)).or_default();
+        *quantity_sum += quantity;
+        *amount_sum += in_billionths(kroner, billionths);
+        assert_eq!(
+            (*quantity_sum, *amount_sum),
+            (
+                balance_quantity,
+                in_billionths(balance_kroner, balance_billionths)
+            ),
+            "seed {seed}: {line}"
+        );
+        // Days, pieces and Wh are never below zero; an amount may be.
+        assert!(balance_quantity >= 0, "seed {seed}: {line}");
+    }
+}
+
+fn in_billionths(kroner: i128, billionths: i128) -> i128 {
+    assert!((0..1_000_000_000).contains(&billionths), "{billionths}");
+    kroner * 1_000_000_000 + billionths
+}
+
+#[test]
+fn balances_are_the_sums_of_the_records() {
+    for seed in 0..3_000 {
+        assert_balances(&fresh::output(&generate(seed)), seed);
+    }
+    // Some hundred rounds over the same lines.
+    for seed in 1..=2 {
+        assert_balances(&fresh::output(&generate_large(seed)), seed);
+    }
 }
 
 /// The lines of an output come in the order that document 01 gives them.
@@ -51,7 +114,6 @@ fn runs_have_their_form() {
                     assert!((6..=17).contains(question), "seed {seed}");
                 }
                 Event::Record(record) => {
-                    assert!((0..1_000_000_000).contains(&record.billionths()));
                     assert!(record.quantity != 0 || record.amount != 0, "seed {seed}");
                 }
                 Event::Accepted { .. } => {}
