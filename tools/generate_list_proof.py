@@ -772,7 +772,8 @@ def before():
     of = f"{HERE} (mem : Memory → SProp 𝓤) (run : Routine → Fun 𝓤) → Contract 𝓤"
     for c in CALLS.values():
         yield define("", c.contract, of, f"tripleOf 𝓤 H A {c.name}.signature ({c.name}.spec {MODEL})")
-    yield f"-- the local array has the numbers of as many records as a book has lines\nabbrev {NUMBERS} : ℕ\n{NUMBERS} = mostLines * recordSize\n"
+    yield "-- the local array has the numbers of as many records as a book has lines"
+    yield define("", NUMBERS, "ℕ", "mostLines * recordSize")
     yield f"room-numbers : Room i64 {NUMBERS}\nroom-numbers = (lit< tt, lit< tt)\n"
     yield "below : {n m k : ℕ} → n ≤ m → m < k → n < k\nbelow few fits = omega arith\n"
 

@@ -248,6 +248,18 @@ module _ (bytes : List ℕ) (c : Contents) (h : contentsOf bytes ≡ some c) (a 
   unfolding outputOf
   whole-text = settled-text bytes ∙ rw (h, a)
 
+  inside : (s e : ℕ) → InBook (c .opening) s e → InBook (lentFor (c .opening) .opening) s e
+  unfolding lentFor
+  inside s e b = b
+
+  -- a message as an event is of its kind, and has its answer
+  event-round : (x : Split (c .messages .fields)) → x .message .kind ≡ 8 → eventOf (x .message) .fields .kind ≡ 8
+  event-round x z = rw (same-fields (x .message)) z
+
+  event-answer : (x : Split (c .messages .fields)) → answer (reachedBy (c .opening) (x .before) .world) (x .message) settleRecords ≡ 0
+      → answer (reachedBy (c .opening) (x .before) .world) (eventOf (x .message) .fields) (length (eventOf (x .message) .lent)) ≡ 0
+  event-answer x q = rw (lent-long (x .message), same-fields (x .message)) q
+
   pub settled-as : SettledAs bytes (c .opening) (c .messages .fields) (c .messages .broken)
   settled-as =
       let k = demand3 (lentFor (c .opening)) (opening-accepted (c .opening) a) (eventsOf (c .messages .fields)) in
@@ -259,14 +271,15 @@ module _ (bytes : List ℕ) (c : Contents) (h : contentsOf bytes ≡ some c) (a 
             ∙ ap textOf (append-assoc (linesTo (c .opening) (upTo x)) _ _) ∙ text-append (linesTo (c .opening) (upTo x)) _;
         records = λ x. records-line (c .opening) x;
         rounds = λ x z q m s e b.
-            let inside : InBook (lentFor (c .opening) .opening) s e = unfold lentFor in b in
             ap (total m s e) (records-line (c .opening) x)
-            ∙ rw (to-here (c .opening) x) at (k .rounds (splitEvents (c .opening) x) (rw (same-fields (x .message)) z)
-            (rw (lent-long (x .message), same-fields (x .message)) q) m s e inside);
+            ∙ rw (to-here (c .opening) x) at (k .rounds (splitEvents (c .opening) x) (event-round x z) (event-answer x q) m s e
+            (inside s e b));
         lastBalance = λ x s e b.
-            let inside : InBook (lentFor (c .opening) .opening) s e = unfold lentFor in b in
             let j = demand3 (lentFor (c .opening)) (opening-accepted (c .opening) a) (eventsOf (upTo x)) in
-            rw (records-line (c .opening) x) (j .lastBalance s e inside);
+            rw (records-line (c .opening) x) (j .lastBalance s e (inside s e b));
+        roundBalance = λ x z q s e b.
+            rw (records-line (c .opening) x) (rw (to-here (c .opening) x) at (k .roundBalance (splitEvents (c .opening) x)
+            (event-round x z) (event-answer x q) s e (inside s e b)));
         eachBalance = λ x r m.
             let w = reachedBy (c .opening) (x .before) .world in
             let here = rw (among-lines w (x .message) (length (x .before) + 1), ← event-records w (x .message)) at m in

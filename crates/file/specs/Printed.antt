@@ -13,7 +13,7 @@ use Rattle.rules.specs.World.{Opening, World, monthFirst, monthDays, InBook}
 use Rattle.rules.specs.Opening.{opened}
 use Rattle.rules.specs.Effects.{noRecord, answer, step, recordsOf}
 use Rattle.rules.specs.Queries.{lineQuery, named}
-use Rattle.rules.specs.Claim.{Event, History, reached, Split, upTo, total, balanceOf, LastBalance, Kept}
+use Rattle.rules.specs.Claim.{Event, History, reached, Split, upTo, total, balanceOf, LastBalance, LastStands, Kept}
 use Rattle.file.specs.Lines.{bookLine, recordLine, refusedLine}
 use Rattle.file.specs.Program.{settleRecords, lentFor, settleAnswer, settled}
 use Rattle.file.specs.Contents.{Contents}
@@ -116,6 +116,9 @@ pub record SettledAs (bytes : List ℕ) (o : Opening) (fs : List Fields) (broken
       → total m s e (recordsAmong (linesTo o (upTo x))) ≡ named m (lineQuery (reachedBy o (upTo x) .world) s e)
   -- of the records printed so far, the last of each line carries their sum
   pub lastBalance : (x : Split fs) (s e : ℕ) → InBook o s e → LastBalance s e (recordsAmong (linesTo o (upTo x)))
+  -- after each accepted round it is the line as it then stands
+  pub roundBalance : (x : Split fs) → x .message .kind ≡ 8 → answer (reachedBy o (x .before) .world) (x .message) settleRecords ≡ 0
+      → (s e : ℕ) → InBook o s e → LastStands s e (recordsAmong (linesTo o (upTo x))) (reachedBy o (upTo x) .world)
   -- and each record that is printed for a message carries the line as it stands after it
   pub eachBalance : (x : Split fs) (r : Record)
       → List·Memᴰ r (recordsAmong (linesOf (reachedBy o (x .before) .world) (x .message) (length (x .before) + 1)))

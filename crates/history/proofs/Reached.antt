@@ -18,7 +18,7 @@ use Rattle.rules.specs.Effects.{noRecord, answer, step, recordsOf}
 use Rattle.rules.specs.WellFormed.{question2, question3, question4}
 use Rattle.rules.specs.Opening.{openingAnswer, opened, afterOpening}
 use Rattle.rules.specs.Queries.{lineQuery, named}
-use Rattle.rules.specs.Claim.{Event, History, advance, advanceAll, begin, Split, upTo, total, balanceOf, LastBalance, Holds}
+use Rattle.rules.specs.Claim.{Event, History, advance, advanceAll, begin, Split, upTo, total, balanceOf, LastBalance, LastStands, Holds}
 use Rattle.rules.proofs.Demand3.{demand3, advance-append, advance-snoc, recordsFrom, records-behind}
 use Rattle.rules.proofs.Ranges.{getD-listTo}
 use Rattle.ledger.specs.RecordNumbers.{numbersAfter, recordAt}
@@ -99,19 +99,28 @@ module _ (w after : World) (fs : List Fields) (count : ℕ) (lent out : List ℤ
     unfolding lentWith
     local-at s e b n r = rw to-here at (demand3 w a (eventsOf w fs lent) .local y s e b n (rw to-here r))
 
+    -- the answer in the table is the rules'
+    answered-here : getD answered (length (x .before)) 0 ≡ 0
+        → answer (reachedBy w (x .before) lent .world) (y .message .fields) (length (y .message .lent)) ≡ 0
+    answered-here z = sym (answer-at (opened w) (roomIn lent) x (drop (length fs) table))
+        ∙ ap (λ l. getD l (length (x .before)) 0) (sym (g .answers)) ∙ z
+
     rounds-add : x .message .kind ≡ 8 → getD answered (length (x .before)) 0 ≡ 0
         → (m : Measure) (s e : ℕ) → InBook (w .opening) s e
         → total m s e (recordsIn (length (reachedBy w (upTo x) lent .records)) out)
         ≡ named m (lineQuery (reachedBy w (upTo x) lent .world) s e)
     unfolding lentWith
     rounds-add k z m s e b =
-        let n : answer (reachedBy w (x .before) lent .world) (y .message .fields) (length (y .message .lent)) ≡ 0
-        = sym (answer-at (opened w) (roomIn lent) x (drop (length fs) table))
-        ∙ ap (λ l. getD l (length (x .before)) 0) (sym (g .answers)) ∙ z in
-        ap (total m s e) front-back ∙ rw to-here at (demand3 w a (eventsOf w fs lent) .rounds y k n m s e b)
+        ap (total m s e) front-back ∙ rw to-here at (demand3 w a (eventsOf w fs lent) .rounds y k (answered-here z) m s e b)
 
     last-at : (s e : ℕ) → InBook (w .opening) s e → LastBalance s e (recordsIn (length (reachedBy w (upTo x) lent .records)) out)
     last-at s e b = rw front-back (demand3 w a (eventsOf w (upTo x) lent) .lastBalance s e b)
+
+    round-at : x .message .kind ≡ 8 → getD answered (length (x .before)) 0 ≡ 0 → (s e : ℕ) → InBook (w .opening) s e
+        → LastStands s e (recordsIn (length (reachedBy w (upTo x) lent .records)) out) (reachedBy w (upTo x) lent .world)
+    unfolding lentWith
+    round-at k z s e b =
+        rw front-back (rw to-here at (demand3 w a (eventsOf w fs lent) .roundBalance y k (answered-here z) s e b))
 
     -- the records before the message, and those that it has written
     abbrev earlier : List Record
@@ -157,6 +166,7 @@ module _ (w after : World) (fs : List Fields) (count : ℕ) (lent out : List ℤ
         local = local-at;
         rounds = rounds-add;
         lastBalance = last-at;
+        roundBalance = round-at;
         eachBalance = each-at;
       }
 

@@ -12,7 +12,7 @@ use Rattle.rules.specs.World.{World, InBook}
 use Rattle.rules.specs.Opening.{openingAnswer, opened}
 use Rattle.rules.specs.Queries.{lineQuery, lineGiven, ownLine, named}
 use Rattle.rules.specs.Fresh.{freshFacts}
-use Rattle.rules.specs.Claim.{Event, History, reached, Split, upTo, total, balanceOf, LastBalance, Holds, Kept}
+use Rattle.rules.specs.Claim.{Event, History, reached, Split, upTo, total, balanceOf, LastBalance, LastStands, Holds, Kept}
 use Rattle.rules.specs.Basics.{listTo}
 use Rattle.ledger.specs.RecordNumbers.{recordAt}
 use Rattle.settlement.specs.Replies.{roomIn}
@@ -53,7 +53,11 @@ pub record FromOpening (w after : World) (fs : List Fields) (count : ℕ) (lent 
   -- of the records that stood in the list after a message, the last of each line carries their sum
   pub lastBalance : (x : Split fs) (s e : ℕ) → InBook (w .opening) s e
       → LastBalance s e (recordsIn (length (reachedBy w (upTo x) lent .records)) out)
-  -- and each that the message has written behind those before it carries the line as it then stood
+  -- after each round that was answered 0 it is the line as it then stood
+  pub roundBalance : (x : Split fs) → x .message .kind ≡ 8 → getD answered (length (x .before)) 0 ≡ 0
+      → (s e : ℕ) → InBook (w .opening) s e
+      → LastStands s e (recordsIn (length (reachedBy w (upTo x) lent .records)) out) (reachedBy w (upTo x) lent .world)
+  -- and each that a message has written behind those before it carries the line as it then stood
   pub eachBalance : (x : Split fs) (i : ℕ) → length (reachedBy w (x .before) lent .records) ≤ i
       → i < length (reachedBy w (upTo x) lent .records)
       → balanceOf (recordAt out i)

@@ -58,8 +58,8 @@ numbers-put rs r lent n e h =
 
 -- nine stores one behind the other
 pub nine-stores : (xs : List ℤ) (at : ℕ) (a b c d e f g h j : ℤ)
-    → set (set (set (set (set (set (set (set (set xs at a) (at + 1) b) (at + 2) c) (at + 3) d) (at + 4) e) (at + 5) f) (at + 6) g) (at + 7) h)
-    (at + 8) j ≡ sets xs at (a ∷ b ∷ c ∷ d ∷ e ∷ f ∷ g ∷ h ∷ j ∷ [])
+    → set (set (set (set (set (set (set (set (set xs at a) (at + 1) b) (at + 2) c) (at + 3) d) (at + 4) e) (at + 5) f) (at + 6) g)
+    (at + 7) h) (at + 8) j ≡ sets xs at (a ∷ b ∷ c ∷ d ∷ e ∷ f ∷ g ∷ h ∷ j ∷ [])
 nine-stores xs at a b c d e f g h j =
     let p1 : at + 1 ≡ suc at = omega arith in
     let p2 : at + 2 ≡ suc (suc at) = omega arith in
@@ -81,7 +81,9 @@ module _ (r : Record) (xs : List ℤ) (i : ℕ) where
 
   number-behind : (j : ℕ) → getD (recordNumbers r ++ xs) (suc i * recordSize + j) (pos 0) ≡ getD xs (i * recordSize + j) (pos 0)
   unfolding recordNumbers
-  number-behind j = let n : suc i * recordSize + j ≡ suc (suc (suc (suc (suc (suc (suc (suc (suc (i * recordSize + j))))))))) = omega arith in rw n
+  number-behind j =
+      let n : suc i * recordSize + j ≡ suc (suc (suc (suc (suc (suc (suc (suc (suc (i * recordSize + j))))))))) = omega arith in
+      rw n
 
   record-behind : recordAt (recordNumbers r ++ xs) (suc i) ≡ recordAt xs i
   unfolding recordAt

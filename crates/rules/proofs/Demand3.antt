@@ -29,8 +29,8 @@ use Rattle.rules.specs.Effects.{linesAfter, posted, question17, answer, 
 use Rattle.rules.specs.Opening.{openingAnswer, opened}
 use Rattle.rules.specs.Queries.{lineQuery, lineNamed, lineGiven, ownLine, named}
 use Rattle.rules.specs.Fresh.{Fresh, heard, heardBody, hear, freshFacts}
-use Rattle.rules.specs.Claim.{Event, History, advance, advanceAll, begin, reached, total, balanceOf, lastRecord, LastBalance, Holds}
-use Rattle.rules.specs.Claim.{reachedLimit, Kept, Demand3}
+use Rattle.rules.specs.Claim.{Event, History, advance, advanceAll, begin, reached, total, balanceOf, lastRecord, LastBalance, LastStands}
+use Rattle.rules.specs.Claim.{Holds, reachedLimit, Kept, Demand3}
 use Rattle.rules.proofs.Tests.{cases, both}
 use Rattle.rules.proofs.Ranges.{all-at, latest-high}
 use Rattle.rules.proofs.ValuesRight.{recorded-high}
@@ -329,17 +329,26 @@ balance-of : (h : History) (o : Opening) → Inv o h → (s e : ℕ) → InBook 
 balance-of h o i s e b r l =
     i .balance s e b r l ∙ ap₂ lineNamed (sym (i .sent Measure.quantity s e b)) (sym (i .sent Measure.amount s e b))
 
--- a round moves no line, so what its records carry is the line after it
-round-each : (h : History) (o : Opening) → Inv o h → Inv o (after h (some Round)) → (r : Record) → List·Memᴰ r (records (h .world))
-    → balanceOf r ≡ lineQuery (after h (some Round) .world) (r .supplier) (r .element)
+-- a round moves no line, so what was stored before it is the line after it
+round-line : (h : History) (o : Opening) → Inv o h → Inv o (after h (some Round)) → (s e : ℕ) → InBook (h .world .opening) s e
+    → storedLine (h .world .opening) (h .world .position .lines) s e ≡ lineQuery (after h (some Round) .world) s e
 unfolding after stepBy posted tablesAfter told
-round-each h o i j r m =
-    let b = each-balance (h .world) r m in
-    let s = r .supplier in
-    let e = r .element in
-    b .1 ∙ ap₂ lineNamed (i .lines Measure.quantity s e (b .0) ∙ sym (j .lines Measure.quantity s e (b .0)))
-    (i .lines Measure.amount s e (b .0) ∙ sym (j .lines Measure.amount s e (b .0)))
-    ∙ sym (query-stored (after h (some Round) .world) (j .whole) s e (b .0))
+round-line h o i j s e b =
+    ap₂ lineNamed (same Measure.quantity) (same Measure.amount) ∙ sym (query-stored (after h (some Round) .world) (j .whole) s e b)
+  where
+    same : (m : Measure) → stored (h .world .opening) (h .world .position .lines) m s e
+        ≡ stored (after h (some Round) .world .opening) (after h (some Round) .world .position .lines) m s e
+    same m = i .lines m s e b ∙ sym (j .lines m s e b)
+
+-- what was sent is then the line, and so the last balance is
+round-balance : (h : History) (o : Opening) → Inv o h → Inv o (after h (some Round)) → (s e : ℕ) → InBook (h .world .opening) s e
+    → LastStands s e (after h (some Round) .records) (after h (some Round) .world)
+unfolding after stepBy posted sentAfter isRound
+round-balance h o i j s e b r l = j .balance s e b r l ∙ round-line h o i j s e b
+
+balance-at : (h : History) (o : Opening) → Inv o h → (v : Event) → accepted (h .world) (v .fields) (length (v .lent)) ≡ some Round
+    → (s e : ℕ) → InBook (h .world .opening) s e → LastStands s e (advance h v .records) (advance h v .world)
+balance-at h o i v c s e b = rw (advance-is h v, c) (round-balance h o i (inv-after o h i v Round c) s e b)
 
 is-round : (b : Body) → isRound b ≡ true → b ≡ Round
 unfolding isRound
@@ -366,7 +375,8 @@ each-of : (h : History) (o : Opening) → Inv o h → (v : Event) (r : Record)
 unfolding recordsOf writtenBy written isRound
 each-of h o i v r m =
     let c = round-written (h .world) (accepted (h .world) (v .fields) (length (v .lent))) r m in
-    rw (advance-is h v, c) (round-each h o i (inv-after o h i v Round c) r (rw c at m))
+    let b = each-balance (h .world) r (rw c at m) in
+    rw (advance-is h v, c) (b .1 ∙ round-line h o i (inv-after o h i v Round c) (r .supplier) (r .element) (b .0))
 
 -- ---- demand 3
 
@@ -398,6 +408,12 @@ module _ (w : World) (a : openingAnswer w ≡ 0) (vs : List Event) where
         → total m s e (reached w (vs ++ (v ∷ [])) .records) ≡ named m (lineQuery (reached w (vs ++ (v ∷ [])) .world) s e))
         (i .opening) (λ m s e b. rw (snoc v) (rounds-of x (w .opening) i v (round-accepted (x .world) v k q) m s e b))
 
+    balance-next : v .fields .kind ≡ 8 → answer (x .world) (v .fields) (length (v .lent)) ≡ 0
+        → (s e : ℕ) → InBook (w .opening) s e → LastStands s e (reached w (vs ++ (v ∷ [])) .records) (reached w (vs ++ (v ∷ [])) .world)
+    balance-next k q = subst (λ o. (s e : ℕ) → InBook o s e
+        → LastStands s e (reached w (vs ++ (v ∷ [])) .records) (reached w (vs ++ (v ∷ [])) .world))
+        (i .opening) (λ s e b. rw (snoc v) (balance-at x (w .opening) i v (round-accepted (x .world) v k q) s e b))
+
     each-next : (r : Record) → List·Memᴰ r (recordsOf (x .world) (v .fields) (length (v .lent)))
         → balanceOf r ≡ lineQuery (reached w (vs ++ (v ∷ [])) .world) (r .supplier) (r .element)
     each-next r m = rw (snoc v) (each-of x (w .opening) i v r m)
@@ -421,6 +437,7 @@ module _ (w : World) (a : openingAnswer w ≡ 0) (vs : List Event) where
         local = λ y. local-next w a (y .before) (y .message);
         rounds = λ y. rounds-next w a (y .before) (y .message);
         lastBalance = subst (λ o. (s e : ℕ) → InBook o s e → LastBalance s e (h .records)) (j .opening) (balance-of h (w .opening) j);
+        roundBalance = λ y. balance-next w a (y .before) (y .message);
         eachBalance = λ y. each-next w a (y .before) (y .message);
         totals = subst (λ (o : Opening). (m : Measure) (e : ℕ) → e < o .elements
             → sumTo (λ s. named m (lineQuery (h .world) (suc s) e)) (o .suppliers)

@@ -94,6 +94,10 @@ lastRecord s e found (r ∷ rs) = lastRecord s e (cond (isOf s e r) (some r) fou
 abbrev pub LastBalance : (supplier element : ℕ) → List Record → Type 0
 LastBalance s e rs = (r : Record) → lastRecord s e none rs ≡ some r → balanceOf r ≡ totalLine s e rs
 
+-- and it is the line as it stands: "and the line at that round"
+abbrev pub LastStands : (supplier element : ℕ) → List Record → World → Type 0
+LastStands s e rs w = (r : Record) → lastRecord s e none rs ≡ some r → balanceOf r ≡ lineQuery w s e
+
 -- the supplier holds the point on some day of the month; "holders fresh settlement's"
 pub record Holds (o : Opening) (f : Fresh) (s p : ℕ) : Type 0 where
   pub day : ℕ
@@ -127,7 +131,11 @@ pub record Kept (w : World) (vs : List Event) : Type 0 where
       → total m s e (reached w (upTo x) .records) ≡ named m (lineQuery (reached w (upTo x) .world) s e)
   -- request 7: "for a line with records, the last balance equals their sum"
   pub lastBalance : (s e : ℕ) → InBook (w .opening) s e → LastBalance s e (reached w vs .records)
-  -- "and the line at that round": each record that a message writes carries the line query's answer after it
+  -- "and the line at that round", whether the round has a record for it or not
+  pub roundBalance : (x : Split vs) → x .message .fields .kind ≡ 8
+      → answer (reached w (x .before) .world) (x .message .fields) (length (x .message .lent)) ≡ 0
+      → (s e : ℕ) → InBook (w .opening) s e → LastStands s e (reached w (upTo x) .records) (reached w (upTo x) .world)
+  -- and each record that a message writes carries the line query's answer after it
   pub eachBalance : (x : Split vs) (r : Record)
       → List·Memᴰ r (recordsOf (reached w (x .before) .world) (x .message .fields) (length (x .message .lent)))
       → balanceOf r ≡ lineQuery (reached w (upTo x) .world) (r .supplier) (r .element)

@@ -220,8 +220,8 @@ fn send(book: Book, lines: &[i64], sent: &mut [i64], records: &mut [i64]) -> Rep
     }
 }
 
-// A message of a book that is well formed, and stays so; six numbers for each record of the list. A refusal leaves book, tables and list as
-// they were. Cost: of a round linear in the lines; of another message as above.
+// A message of a book that is well formed, and stays so; nine numbers for each record of the list. A refusal leaves book, tables and list
+// as they were. Cost: of a round linear in the lines; of another message as above.
 pub fn message(
     book: Book,
     element_data: &[u8],

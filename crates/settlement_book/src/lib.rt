@@ -107,7 +107,7 @@ pub extern "C" fn settlement_book_open(
 
 // ---- messages
 
-// A message of any book and any tables: questions 2 to 18; six numbers for each record of the list. A refusal leaves book, tables and list
+// A message of any book and any tables: questions 2 to 18; nine numbers for each record of the list. A refusal leaves book, tables and list
 // as they were. Linear in what is lent, for the questions of the book.
 pub fn message(
     book: Book,

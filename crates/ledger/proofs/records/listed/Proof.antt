@@ -203,15 +203,15 @@ module _ {M : Type 1} (𝓤 : URA M) (H : Heap 𝓤) (A : Atoms 𝓤) (W : Given
             (init ! 18 refl (array-lawful 𝓤 H A W R (LL.lawful T.the-type T′.the-laws 𝓤 H A W) mostLines .typed zs _ is .0)) $
             returns ! (look ! 18 refl) $ forget ! 1 refl $ forget ! 14 refl $ forget ! 16 refl $ forget ! 18 refl $
             move ! (18 ∷ 19 ∷ []) $ free1 ! $ move ! (16 ∷ 17 ∷ []) $ free1 ! $ move ! (14 ∷ 15 ∷ []) $ free1 ! $
-            move ! (1 ∷ 13 ∷ []) $ free1 ! $ move ! (10 ∷ 11 ∷ []) $ free1 ! $ move ! (8 ∷ 9 ∷ []) $ free1 ! $ move ! (6 ∷ 7 ∷ []) $ free1 ! $
-            move ! (4 ∷ 5 ∷ []) $ free1 ! $
-            move ! (2 ∷ 3 ∷ []) $ free1 ! $ free0 ! $ by ! (exits zs v e)))
+            move ! (1 ∷ 13 ∷ []) $ free1 ! $ move ! (10 ∷ 11 ∷ []) $ free1 ! $ move ! (8 ∷ 9 ∷ []) $ free1 ! $
+            move ! (6 ∷ 7 ∷ []) $ free1 ! $ move ! (4 ∷ 5 ∷ []) $ free1 ! $ move ! (2 ∷ 3 ∷ []) $ free1 ! $ free0 ! $
+            by ! (exits zs v e)))
 
         -- the list is filled, lent to `put_list`, and taken back
         filled : Sq W (‵ (HadShared numbers (named 0)) ∷ ‵ (froom τ-list l8 0) ∷ ‵ (fdies τ-list l8) ∷ ‵ (froom τ-ref l7 0)
             ∷ ‵ (fdies τ-ref l7) ∷ ‵ (froom tyUnit l6 0) ∷ ‵ (fdies tyUnit l6) ∷ ‵ (froom T′.mir l5 0) ∷ ‵ (fdies T′.mir l5)
-            ∷ ‵ (froom B′.mir l4 0) ∷ ‵ (fdies B′.mir l4) ∷ ‵ (froom (tyArray T′.mir mostLines) l3 0) ∷ ‵ (fdies (tyArray T′.mir mostLines) l3) ∷ held)
-            (runs C Λ E mir.t-1 (atRet E Post))
+            ∷ ‵ (froom B′.mir l4 0) ∷ ‵ (fdies B′.mir l4) ∷ ‵ (froom (tyArray T′.mir mostLines) l3 0)
+            ∷ ‵ (fdies (tyArray T′.mir mostLines) l3) ∷ held) (runs C Λ E mir.t-1 (atRet E Post))
         filled =
             assigns ! (agg ! (and-then ! (lit ! tt) (and-then ! (lit ! tt) (and-then ! (lit ! tt) (no-more !))))) (from ! (stop !))
             (init ! 9 refl (LL.lawful B.the-type B′.the-laws 𝓤 H A W .typed noBalance _ zeros-balance-is .0)) $
