@@ -105,7 +105,8 @@
  *    1  kroner
  *    2  billionths of a krone, 0 to 999,999,999, counting upwards from the kroner
  *
- * A record, how much a line has moved since the last round, and its balance: the line after the round, to which its records so far add up:
+ * A record, how much a line has moved since the last round, and its balance, the line after this one. In a book that was opened and has
+ * only taken messages since, the records of a line so far add up to its balance.
  *    0  kind: 1 fixing, 2 refixing, 3 any later
  *    1  supplier
  *    2  element

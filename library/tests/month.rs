@@ -140,7 +140,7 @@ fn assert_balance_is_line(book: &Book, record: &Record) {
 }
 
 #[test]
-fn a_line_that_returns_to_zero_says_so() {
+fn a_line_that_returns_to_zero_has_a_balance_of_zero() {
     let mut book = listing();
     assert_eq!(book.message(&round()).unwrap().len(), 4);
     tell(&mut book, told(6, 1, 0, 8841, 0, 0));

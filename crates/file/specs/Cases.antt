@@ -1,5 +1,5 @@
--- Lines and short inputs of document 01, as one table: what the definitions give, and the bytes that are printed. The listing itself is run
--- by a program against stored output: its messages take the checker too long.
+-- Lines and short inputs of document 01, the record with its balance, as one table: what the definitions give, and the bytes that are
+-- printed. The listing itself is run by a program against stored output: its messages take the checker too long.
 use Prim.Native.Nat.{ℕ}
 use mathlib.Core.Bool.{Bool, true, false, _&&_}
 use mathlib.Core.List.{List, [], _∷_, _++_}

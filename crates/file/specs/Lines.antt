@@ -40,11 +40,11 @@ bookLine year month days first =
 unfoldable pub measuresThen : (quantity kroner : ℤ) → (billionths after : ℕ) → List ℕ
 measuresThen quantity kroner billionths after = signedThen quantity space ++ signedThen kroner space ++ numberThen billionths after
 
--- "`record`: kind, supplier, element, quantity, kroner, billionths."; "`settle` prints the three new numbers at the end of each record
--- line"
+-- "`record`: kind, supplier, element, quantity, kroner, billionths."
 unfoldable pub recordNames : (kind supplier element : ℕ) → List ℕ
 recordNames kind supplier element = recordWord ++ numberThen kind space ++ numberThen supplier space ++ numberThen element space
 
+-- "`settle` prints the three new numbers at the end of each record line"
 unfoldable pub recordLine : Record → List ℕ
 recordLine r =
     recordNames (r .kind) (r .supplier) (r .element)

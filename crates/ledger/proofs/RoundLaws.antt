@@ -13,7 +13,7 @@ use lib.Seq.{sets, set-getD, paste, paste-suc, length-paste, take-length, getD-d
 use lib.Signed.{pos-natAbs}
 use lib.Dec.{eqb}
 use borrow.Author.Tests.{eqb-true}
-use Rattle.integers.proofs.Linear.{lin, read, #, nat, _⊝_}
+use Rattle.integers.proofs.Linear.{lin, read, #, nat, _⊝_, less-itself}
 use Rattle.rules.specs.Sizes.{lastRound, lineSize, recordSize}
 use Rattle.rules.specs.declared.Book.{Book}
 use Rattle.rules.specs.declared.Body.{Body}
@@ -29,7 +29,7 @@ use Rattle.rules.proofs.Tests.{cases, both}
 use Rattle.rules.proofs.Ranges.{within-low, within-high, all-at}
 use Rattle.rules.proofs.Parts.{lengths, formed}
 use Rattle.rules.proofs.Stored.{line-at}
-use Rattle.ledger.specs.declared.lines.Line.{Line}
+use Rattle.rules.specs.declared.Line.{Line}
 use Rattle.ledger.specs.Bounds.{LineOf}
 use Rattle.ledger.specs.RecordNumbers.{recordNumbers, numbersAfter}
 use Rattle.ledger.proofs.RecordNumbers.{length-after, numbers-put}
@@ -62,15 +62,12 @@ no-difference a b h = lin (# a) (# b) (omega (arith, read (# a ⊝ # b) (nat 0) 
     none (pos n) e = ap pos e
     none (negsuc n) e = absurd (omega arith)
 
-self-difference : (a : ℤ) → a -ℤ a ≡ pos 0
-self-difference a = lin (# a ⊝ # a) (nat 0) (omega arith)
-
 module _ (ls ts : List ℤ) (at : ℕ) where
   -- the same three numbers
   pub same-unmoved : getD ls at (pos 0) ≡ getD ts at (pos 0) → getD ls (at + 1) (pos 0) ≡ getD ts (at + 1) (pos 0)
       → getD ls (at + 2) (pos 0) ≡ getD ts (at + 2) (pos 0) → unmovedAt ls ts at ≡ true
   unfolding unmovedAt movedBy storedAt
-  same-unmoved q k b = rw (q, k, b, self-difference (storedAt ts Measure.quantity at), self-difference (storedAt ts Measure.amount at))
+  same-unmoved q k b = rw (q, k, b, less-itself (storedAt ts Measure.quantity at), less-itself (storedAt ts Measure.amount at))
 
   -- and back, of lines in their one form
   module _ (h : Comparable ls ts at) (u : unmovedAt ls ts at ≡ true) where
@@ -129,7 +126,7 @@ pub record-is : (b : Book) (ls ts : List ℤ) (k : ℕ) (r l : Line) (x y u v : 
       quantity = r .quantity;
       kroner = r .kroner;
       billionths = r .billionths;
-      balance = record { quantity = l .quantity; kroner = l .kroner; billionths = l .billionths };
+      balance = l;
     } ≡ lineRecord b ls ts k
 unfolding lineRecord
 record-is b ls ts k r l x y u v g h =

@@ -8,7 +8,7 @@ ghost use Rattle.rules.specs.Sizes.{mostLines};
 ghost use Rattle.rules.specs.Lent.{was, left};
 ghost use Rattle.rules.specs.Effects.{noRecord};
 ghost use Rattle.ledger.specs.RecordNumbers.{recordAt, RecordPlaces};
-use rules::Balance;
+use rules::Line;
 use rules::MOST_LINES;
 use rules::RECORD_SIZE;
 use rules::Record;
@@ -26,7 +26,7 @@ pub fn record_at(numbers: &[i64], i: usize) -> Record
         quantity: numbers[at + 3],
         kroner: numbers[at + 4],
         billionths: numbers[at + 5] as u64,
-        balance: Balance {
+        balance: Line {
             quantity: numbers[at + 6],
             kroner: numbers[at + 7],
             billionths: numbers[at + 8] as u64,
@@ -59,7 +59,7 @@ pub fn listed(numbers: &[i64], count: usize) -> [Record; MOST_LINES]
         quantity: 0,
         kroner: 0,
         billionths: 0,
-        balance: Balance {
+        balance: Line {
             quantity: 0,
             kroner: 0,
             billionths: 0,

@@ -11,13 +11,12 @@ ghost use Rattle.ledger.specs.Bounds.{LineOf, movedQuantity, movedKroner
 ghost use Rattle.ledger.specs.RecordNumbers.{SmallRecord, recordNumbers, numbersAfter};
 ghost use Rattle.ledger.specs.Moved.{movedBy, unmovedAt, linesIn, lineRecord, lineRecords, movedCount, lineCopied};
 ghost use Rattle.ledger.specs.Moved.{Comparable, Settled, Sendable, LineSent};
-use crate::lines::Line;
 use crate::lines::line_at;
 use crate::lines::line_difference;
-use rules::Balance;
 use rules::Book;
 use rules::LAST_ROUND;
 use rules::LINE_SIZE;
+use rules::Line;
 use rules::RECORD_SIZE;
 use rules::Record;
 
@@ -76,7 +75,6 @@ fn record_of(book: Book, lines: &[i64], sent: &[i64], k: usize) -> Record
 {
     let at = k * LINE_SIZE;
     let moved = moved_by(lines, sent, at);
-    let line = line_at(lines, at);
     let number = k as u64;
     Record {
         kind: book.round,
@@ -85,11 +83,7 @@ fn record_of(book: Book, lines: &[i64], sent: &[i64], k: usize) -> Record
         quantity: moved.quantity,
         kroner: moved.kroner,
         billionths: moved.billionths,
-        balance: Balance {
-            quantity: line.quantity,
-            kroner: line.kroner,
-            billionths: line.billionths,
-        },
+        balance: line_at(lines, at),
     }
 }
 

@@ -14,7 +14,7 @@ use native.Mathlib.Omega.{arith}
 use Rattle.rules.specs.declared.Answer.{Answer}
 use Rattle.rules.specs.declared.Book.{Book}
 use Rattle.rules.specs.declared.LineAnswer.{LineAnswer}
-use Rattle.ledger.specs.declared.lines.Line.{Line}
+use Rattle.rules.specs.declared.Line.{Line}
 use Rattle.rules.specs.Sizes.{mostElements, mostLines, mostSuppliers}
 use Rattle.rules.specs.Lines.{Measure}
 use Rattle.rules.specs.World.{World, rowsOf, lineAt, lineCount, storedAt, stored}

@@ -6,11 +6,11 @@ use Prim.Native.Nat.{ℕ, suc, _+_, _≤_, _<_}
 use mathlib.Core.Bool.{Bool, true, false, _&&_, false≢true}
 use mathlib.Core.List.{List, [], _∷_, _++_, append-nil, append-assoc, List·Memᴰ, List·Memᴰ·not-nil}
 use mathlib.Core.Option.{Option, none, some}
-use lib.IntN.{natAbs}
+use lib.IntN.{natAbs, +ℤ-idr}
 use lib.ListN.{length}
 use native.Mathlib.Nat.{le-trans}
 use native.Mathlib.Omega.{arith}
-use Rattle.integers.proofs.Linear.{back-again}
+use Rattle.integers.proofs.Linear.{back-again, less-itself}
 use Rattle.integers.specs.Sums.{sumTo}
 use Rattle.integers.proofs.Sums.{sum-cong}
 use Rattle.rules.specs.Sizes.{holderSize}
@@ -29,8 +29,8 @@ use Rattle.rules.specs.Effects.{linesAfter, posted, question17, answer, 
 use Rattle.rules.specs.Opening.{openingAnswer, opened}
 use Rattle.rules.specs.Queries.{lineQuery, lineNamed, lineGiven, ownLine, named}
 use Rattle.rules.specs.Fresh.{Fresh, heard, heardBody, hear, freshFacts}
-use Rattle.rules.specs.Claim.{Event, History, advance, advanceAll, begin, reached, total, balanceOf, lastRecord, LastBalance, LastStands}
-use Rattle.rules.specs.Claim.{Holds, reachedLimit, Kept, Demand3}
+use Rattle.rules.specs.Claim.{Event, History, advance, advanceAll, begin, reached, total, balanceOf, lastRecord, LastBalance}
+use Rattle.rules.specs.Claim.{LastStands, Holds, reachedLimit, Kept, Demand3}
 use Rattle.rules.proofs.Tests.{cases, both}
 use Rattle.rules.proofs.Ranges.{all-at, latest-high}
 use Rattle.rules.proofs.ValuesRight.{recorded-high}
@@ -329,26 +329,32 @@ balance-of : (h : History) (o : Opening) → Inv o h → (s e : ℕ) → InBook 
 balance-of h o i s e b r l =
     i .balance s e b r l ∙ ap₂ lineNamed (sym (i .sent Measure.quantity s e b)) (sym (i .sent Measure.amount s e b))
 
--- a round moves no line, so what was stored before it is the line after it
-round-line : (h : History) (o : Opening) → Inv o h → Inv o (after h (some Round)) → (s e : ℕ) → InBook (h .world .opening) s e
-    → storedLine (h .world .opening) (h .world .position .lines) s e ≡ lineQuery (after h (some Round) .world) s e
-unfolding after stepBy posted tablesAfter told
-round-line h o i j s e b =
-    ap₂ lineNamed (same Measure.quantity) (same Measure.amount) ∙ sym (query-stored (after h (some Round) .world) (j .whole) s e b)
+-- A round moves no line, of whatever book: what was stored before it is what the line query answers after it.
+round-line : (w : World) → Whole (posted w Round) → (s e : ℕ) → InBook (w .opening) s e
+    → storedLine (w .opening) (w .position .lines) s e ≡ lineQuery (posted w Round) s e
+unfolding posted linesAfter movedLines movedLine tablesAfter told
+round-line w c s e b =
+    ap₂ lineNamed (same Measure.quantity) (same Measure.amount) ∙ sym (query-stored (posted w Round) c s e b)
   where
-    same : (m : Measure) → stored (h .world .opening) (h .world .position .lines) m s e
-        ≡ stored (after h (some Round) .world .opening) (after h (some Round) .world .position .lines) m s e
-    same m = i .lines m s e b ∙ sym (j .lines m s e b)
+    same : (m : Measure) → stored (w .opening) (w .position .lines) m s e
+        ≡ stored (w .opening) (posted w Round .position .lines) m s e
+    same m = sym (stored-lines (w .opening) _ m s e b
+        ∙ rw (less-itself (line (termsOf (w .opening)) (factsOf (w .opening) (w .position .tables)) m s e), +ℤ-idr))
+
+-- so each of its records carries that
+pub round-carries : (w : World) → Whole (posted w Round) → (r : Record) → List·Memᴰ r (records w)
+    → balanceOf r ≡ lineQuery (posted w Round) (r .supplier) (r .element)
+round-carries w c r m = let b = each-balance w r m in b .1 ∙ round-line w c (r .supplier) (r .element) (b .0)
 
 -- what was sent is then the line, and so the last balance is
-round-balance : (h : History) (o : Opening) → Inv o h → Inv o (after h (some Round)) → (s e : ℕ) → InBook (h .world .opening) s e
+round-balance : (h : History) (o : Opening) → Inv o (after h (some Round)) → (s e : ℕ) → InBook (h .world .opening) s e
     → LastStands s e (after h (some Round) .records) (after h (some Round) .world)
 unfolding after stepBy posted sentAfter isRound
-round-balance h o i j s e b r l = j .balance s e b r l ∙ round-line h o i j s e b
+round-balance h o j s e b r l = j .balance s e b r l ∙ round-line (h .world) (j .whole) s e b
 
 balance-at : (h : History) (o : Opening) → Inv o h → (v : Event) → accepted (h .world) (v .fields) (length (v .lent)) ≡ some Round
     → (s e : ℕ) → InBook (h .world .opening) s e → LastStands s e (advance h v .records) (advance h v .world)
-balance-at h o i v c s e b = rw (advance-is h v, c) (round-balance h o i (inv-after o h i v Round c) s e b)
+balance-at h o i v c s e b = rw (advance-is h v, c) (round-balance h o (inv-after o h i v Round c) s e b)
 
 is-round : (b : Body) → isRound b ≡ true → b ≡ Round
 unfolding isRound
@@ -372,11 +378,10 @@ round-written w (some b) r m = cases (isRound b)
 each-of : (h : History) (o : Opening) → Inv o h → (v : Event) (r : Record)
     → List·Memᴰ r (recordsOf (h .world) (v .fields) (length (v .lent)))
     → balanceOf r ≡ lineQuery (advance h v .world) (r .supplier) (r .element)
-unfolding recordsOf writtenBy written isRound
+unfolding recordsOf writtenBy written isRound after stepBy
 each-of h o i v r m =
     let c = round-written (h .world) (accepted (h .world) (v .fields) (length (v .lent))) r m in
-    let b = each-balance (h .world) r (rw c at m) in
-    rw (advance-is h v, c) (b .1 ∙ round-line h o i (inv-after o h i v Round c) (r .supplier) (r .element) (b .0))
+    rw (advance-is h v, c) (round-carries (h .world) (inv-after o h i v Round c .whole) r (rw c at m))
 
 -- ---- demand 3
 

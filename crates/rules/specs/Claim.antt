@@ -135,7 +135,7 @@ pub record Kept (w : World) (vs : List Event) : Type 0 where
   pub roundBalance : (x : Split vs) → x .message .fields .kind ≡ 8
       → answer (reached w (x .before) .world) (x .message .fields) (length (x .message .lent)) ≡ 0
       → (s e : ℕ) → InBook (w .opening) s e → LastStands s e (reached w (upTo x) .records) (reached w (upTo x) .world)
-  -- and each record that a message writes carries the line query's answer after it
+  -- and each record r that a message writes (`List·Memᴰ r rs`: r stands in the list rs) carries the line query's answer after it
   pub eachBalance : (x : Split vs) (r : Record)
       → List·Memᴰ r (recordsOf (reached w (x .before) .world) (x .message .fields) (length (x .message .lent)))
       → balanceOf r ≡ lineQuery (reached w (upTo x) .world) (r .supplier) (r .element)

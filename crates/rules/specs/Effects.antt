@@ -10,7 +10,7 @@ use Rattle.rules.specs.declared.Fields.{Fields}
 use Rattle.rules.specs.declared.Body.{Body}
 use Rattle.rules.specs.declared.Body.the-variants.{Link, Stop, Quantity, Holder, State, Reading, Block, Round}
 use Rattle.rules.specs.declared.Message.{Message}
-use Rattle.rules.specs.declared.Balance.{Balance}
+use Rattle.rules.specs.declared.Line.{Line}
 use Rattle.rules.specs.declared.Record.{Record}
 use Rattle.rules.specs.Basics.{listTo}
 use Rattle.rules.specs.Rows.{packPeriod, nextStart, insertRow, stopRows, splitRows, packValue, recordRow}
@@ -115,8 +115,8 @@ difference w m s e = stored (w .opening) (w .position .lines) m s e -ℤ stored 
 unfoldable pub unmoved : World → (supplier element : ℕ) → Bool
 unmoved w s e = eqb (natAbs (difference w Measure.quantity s e)) 0 && eqb (natAbs (difference w Measure.amount s e)) 0
 
--- what a line stands at; a round moves no line, so this is "the line's quantity and amount after it"
-unfoldable pub balance : World → (supplier element : ℕ) → Balance
+-- what a line stands at. A round moves no line (`round-line` in proofs/Demand3.antt), so this is "the line's quantity and amount after it"
+unfoldable pub balance : World → (supplier element : ℕ) → Line
 balance w s e =
     record {
       quantity = stored (w .opening) (w .position .lines) Measure.quantity s e;

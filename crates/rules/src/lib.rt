@@ -206,14 +206,14 @@ pub struct Message {
     pub body: Body,
 }
 
-// What a line stands at.
-pub struct Balance {
+// A line as it is computed with: the quantity, and the amount in its one form.
+pub struct Line {
     pub quantity: i64,
     pub kroner: i64,
     pub billionths: u64,
 }
 
-// One record of a round: its kind, the line, how far the line has moved since the last round, and what it stands at after this one.
+// One record of a round: its kind, whose line it is, how far that has moved since the last round, and the line after this one.
 pub struct Record {
     pub kind: u64,
     pub supplier: u64,
@@ -221,7 +221,7 @@ pub struct Record {
     pub quantity: i64,
     pub kroner: i64,
     pub billionths: u64,
-    pub balance: Balance,
+    pub balance: Line,
 }
 
 // Accepted, or the question of document 01 that says no.

@@ -1,5 +1,5 @@
-/* The functions of settlement_book.h, called from C: document 01's worked example (March 2024) with queries, refusals, and wrong lengths
- * for every function. Prints a line for each expectation that fails and ends with status 1, or prints how many held.
+/* The functions of settlement_book.h, called from C: document 01's worked example (March 2024) with queries, balances, refusals, and wrong
+ * lengths for every function. Prints a line for each expectation that fails and ends with status 1, or prints how many held.
  *
  * Everything that is lent lies in one block of memory with guard bytes around each part, so that comparing the block with a copy of it
  * says which parts a call has written, and that it wrote nothing outside them. */

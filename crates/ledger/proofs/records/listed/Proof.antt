@@ -44,10 +44,10 @@ use denote.Triple.Table.{entered, cited}
 use denote.Triple.Walked.{says, needs, Stays, stay-none, stay-none-slice, walkOf, goes-none, goes-none-slice, Walks, ends-at, walked}
 use denote.Triple.Walked.{walk-meets}
 use denote.Exit.{yes}
-use Rattle.rules.specs.declared.Balance.{Balance}
+use Rattle.rules.specs.declared.Line.{Line}
 use Rattle.rules.specs.declared.Record.{Record}
-use Rattle.rules.proofs.Balance as B
-use Rattle.rules.proofs.Balance.Laws as B′
+use Rattle.rules.proofs.Line as B
+use Rattle.rules.proofs.Line.Laws as B′
 use Rattle.rules.specs.Basics.{listTo}
 use Rattle.rules.specs.Sizes.{mostLines}
 use Rattle.rules.proofs.Record as T
@@ -88,7 +88,7 @@ abbrev zeros : Val
 zeros = LL.val T.the-type T′.the-laws noRecord
 
 -- a line that stands at nothing, and its machine value
-abbrev noBalance : Balance
+abbrev noBalance : Line
 noBalance = noRecord .balance
 
 abbrev zeros-balance : Val

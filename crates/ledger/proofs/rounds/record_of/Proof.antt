@@ -1,4 +1,4 @@
--- Supplier and element are read off the line's number, and the rest is how far the line has moved.
+-- Supplier and element are read off the line's number; behind them stand how far the line has moved, and the line.
 use Prim.Native.Nat.{_<_}
 use native.Mathlib.Nat.{div-le-self, mod-lt}
 use Rattle.integers.proofs.Integers.{abs-back}
@@ -16,17 +16,14 @@ mul-at c = search needs
 moved-by-requires : tie.Need-moved-by-requires
 moved-by-requires c κs = search needs
 
-line-at-requires : tie.Need-line-at-requires
-line-at-requires c κs = search needs
-
 has-elements : (c : tie.Start) → 0 < c .args .book .elements
 has-elements c = factor (c .args .k) (c .args .book .suppliers) (c .args .book .elements) (c .pre .below)
 
-div-t9 : tie.Need-div-t9
-div-t9 c = let start : tie.Start = search in has-elements start
+div-t8 : tie.Need-div-t8
+div-t8 c = let start : tie.Start = search in has-elements start
 
-add-t10 : tie.Need-add-t10
-add-t10 c =
+add-t9 : tie.Need-add-t9
+add-t9 c =
     let start : tie.Start = search in
     let b = start .args .book in
     let p = start .pre in
@@ -38,8 +35,11 @@ add-t10 c =
       );
     }
 
-rem-t11 : tie.Need-rem-t11
-rem-t11 c = let start : tie.Start = search in has-elements start
+rem-t10 : tie.Need-rem-t10
+rem-t10 c = let start : tie.Start = search in has-elements start
+
+line-at-requires : tie.Need-line-at-requires
+line-at-requires c κs = search needs
 
 returns : tie.Need-returns
 returns c =
@@ -56,8 +56,6 @@ returns c =
     rw (
       abs-back (moved .moved-by .result .quantity) (omega (arith, g .quantity-small)),
       abs-back (moved .moved-by .result .kroner) (omega (arith, g .kroner-small)),
-      abs-back (stands .line-at .result .quantity) (omega (arith, l .quantity-small)),
-      abs-back (stands .line-at .result .kroner) (omega (arith, l .kroner-small)),
     ) (
       record {
         kind = omega (arith, p .round-high);
@@ -75,4 +73,4 @@ returns c =
 
 pub record-of-spec : {M : Type 1} → statement M
 record-of-spec =
-    tie.close (tie.spec mul-at moved-by-requires line-at-requires div-t9 add-t10 rem-t11 returns)
+    tie.close (tie.spec mul-at moved-by-requires div-t8 add-t9 rem-t10 line-at-requires returns)
