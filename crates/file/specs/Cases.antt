@@ -34,9 +34,7 @@ cases =
         kind = 2;
         supplier = 2;
         element = 1;
-        quantity = negsuc 499;
-        kroner = negsuc 0;
-        billionths = 750000000;
+        moved = record { quantity = negsuc 499; kroner = negsuc 0; billionths = 750000000 };
         balance = record { quantity = pos 2500; kroner = pos 1; billionths = 250000000 };
       });
       stated = 114 ∷ 101 ∷ 99 ∷ 111 ∷ 114 ∷ 100 ∷ 32 ∷ 50 ∷ 32 ∷ 50 ∷ 32 ∷ 49 ∷ 32

@@ -4,6 +4,7 @@ use mathlib.Core.Path.{_≡_}
 use mathlib.Core.List.{List, [], _∷_, _++_}
 use lib.IntN.{ℤ}
 use lib.ListN.{length}
+use Rattle.rules.specs.declared.Line.{Line}
 use Rattle.rules.specs.declared.Record.{Record}
 use Rattle.file.specs.Bytes.{placed}
 use Rattle.file.specs.Decimal.{decimal, signedDecimal}
@@ -37,8 +38,8 @@ bookLine year month days first =
     bookWord ++ numberThen year space ++ numberThen month space ++ numberThen days space ++ numberThen first newline
 
 -- a quantity and an amount with what stands behind them
-unfoldable pub measuresThen : (quantity kroner : ℤ) → (billionths after : ℕ) → List ℕ
-measuresThen quantity kroner billionths after = signedThen quantity space ++ signedThen kroner space ++ numberThen billionths after
+unfoldable pub measuresThen : Line → (after : ℕ) → List ℕ
+measuresThen l after = signedThen (l .quantity) space ++ signedThen (l .kroner) space ++ numberThen (l .billionths) after
 
 -- "`record`: kind, supplier, element, quantity, kroner, billionths."
 unfoldable pub recordNames : (kind supplier element : ℕ) → List ℕ
@@ -47,9 +48,7 @@ recordNames kind supplier element = recordWord ++ numberThen kind space ++ numbe
 -- "`settle` prints the three new numbers at the end of each record line"
 unfoldable pub recordLine : Record → List ℕ
 recordLine r =
-    recordNames (r .kind) (r .supplier) (r .element)
-    ++ measuresThen (r .quantity) (r .kroner) (r .billionths) space
-    ++ measuresThen (r .balance .quantity) (r .balance .kroner) (r .balance .billionths) newline
+    recordNames (r .kind) (r .supplier) (r .element) ++ measuresThen (r .moved) space ++ measuresThen (r .balance) newline
 
 -- "`refused`: message number from 1, question."
 unfoldable pub refusedLine : (message question : ℕ) → List ℕ

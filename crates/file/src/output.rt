@@ -1,6 +1,7 @@
 // The printed lines of document 01, "File and program": their text, byte for byte.
 use integers::is_negative;
 use integers::magnitude;
+use rules::Line;
 use rules::Record;
 ghost use mathlib.Core.Path.{_≡_};
 ghost use mathlib.Core.List.{[], _∷_};
@@ -120,20 +121,13 @@ fn put_record_names(out: &mut [u8], at: usize, kind: u64, supplier: u64, element
 }
 
 // A quantity, kroner and billionths, and the byte behind them.
-fn put_measures(
-    out: &mut [u8],
-    at: usize,
-    quantity: i64,
-    kroner: i64,
-    billionths: u64,
-    after: u8,
-) -> usize
+fn put_measures(out: &mut [u8], at: usize, line: Line, after: u8) -> usize
     requires { ⌜ at + measuresWidth ≤ length (now out) ⌝ }
-    ensures { λ r. ⌜ Written measuresWidth (was out) (left out) at r (measuresThen quantity kroner billionths after) ⌝ }
+    ensures { λ r. ⌜ Written measuresWidth (was out) (left out) at r (measuresThen line after) ⌝ }
 {
-    let next = put_signed_then(out, at, quantity, b' ');
-    let next = put_signed_then(out, next, kroner, b' ');
-    put_number_then(out, next, billionths, after)
+    let next = put_signed_then(out, at, line.quantity, b' ');
+    let next = put_signed_then(out, next, line.kroner, b' ');
+    put_number_then(out, next, line.billionths, after)
 }
 
 // `record`: kind, supplier, element, quantity, kroner, billionths, and the balance's quantity, kroner, billionths.
@@ -141,17 +135,11 @@ pub fn put_record(out: &mut [u8], at: usize, r: Record) -> usize
     requires { ⌜ at + longestLine ≤ length (now out) ⌝ }
     ensures { λ n. ⌜ Written longestLine (was out) (left out) at n (recordLine r) ⌝ }
 {
+    let moved = r.moved;
     let balance = r.balance;
     let next = put_record_names(out, at, r.kind, r.supplier, r.element);
-    let next = put_measures(out, next, r.quantity, r.kroner, r.billionths, b' ');
-    put_measures(
-        out,
-        next,
-        balance.quantity,
-        balance.kroner,
-        balance.billionths,
-        b'\n',
-    )
+    let next = put_measures(out, next, moved, b' ');
+    put_measures(out, next, balance, b'\n')
 }
 
 // `refused`: message number, question.

@@ -5,6 +5,7 @@ pub mod Bounds
 pub mod Fronts
 pub mod MovedLines
 pub mod Own
+pub mod LineNumbers
 pub mod RecordNumbers
 pub mod RoundLaws
 pub mod Lending

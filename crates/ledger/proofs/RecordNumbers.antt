@@ -11,10 +11,12 @@ use Rattle.rules.specs.declared.Record.{Record}
 use Rattle.rules.specs.Basics.{listTo}
 use Rattle.rules.specs.Effects.{noRecord}
 use Rattle.rules.proofs.Ranges.{length-listTo, getD-listTo}
-use Rattle.ledger.specs.RecordNumbers.{recordNumbers, numbersOf, numbersAfter, recordAt, RecordPlaces}
+use Rattle.ledger.specs.LineNumbers.{lineNumbers, lineIn, LinePlaces}
+use Rattle.ledger.specs.RecordNumbers.{nameNumbers, recordNumbers, movedPlace, balancePlace, numbersOf, numbersAfter}
+use Rattle.ledger.specs.RecordNumbers.{recordAt, RecordPlaces}
 
 pub length-record : (r : Record) → length (recordNumbers r) ≡ recordSize
-unfolding recordNumbers
+unfolding recordNumbers nameNumbers lineNumbers
 length-record r = refl
 
 pub length-numbers : (rs : List Record) → length (numbersOf rs) ≡ length rs * recordSize
@@ -56,64 +58,63 @@ numbers-put rs r lent n e h =
     ∙ ap (λ m. drop m lent) (let z : n * recordSize + recordSize ≡ suc n * recordSize = omega arith in z))
     ∙ ap₂ (λ (a : List ℤ) (m : ℕ). a ++ drop (m * recordSize) lent) (sym (numbers-more rs r)) (sym k))
 
--- nine stores one behind the other
-pub nine-stores : (xs : List ℤ) (at : ℕ) (a b c d e f g h j : ℤ)
-    → set (set (set (set (set (set (set (set (set xs at a) (at + 1) b) (at + 2) c) (at + 3) d) (at + 4) e) (at + 5) f) (at + 6) g)
-    (at + 7) h) (at + 8) j ≡ sets xs at (a ∷ b ∷ c ∷ d ∷ e ∷ f ∷ g ∷ h ∷ j ∷ [])
-nine-stores xs at a b c d e f g h j =
-    let p1 : at + 1 ≡ suc at = omega arith in
-    let p2 : at + 2 ≡ suc (suc at) = omega arith in
-    let p3 : at + 3 ≡ suc (suc (suc at)) = omega arith in
-    let p4 : at + 4 ≡ suc (suc (suc (suc at))) = omega arith in
-    let p5 : at + 5 ≡ suc (suc (suc (suc (suc at)))) = omega arith in
-    let p6 : at + 6 ≡ suc (suc (suc (suc (suc (suc at))))) = omega arith in
-    let p7 : at + 7 ≡ suc (suc (suc (suc (suc (suc (suc at)))))) = omega arith in
-    let p8 : at + 8 ≡ suc (suc (suc (suc (suc (suc (suc (suc at))))))) = omega arith in
-    λ i. set (set (set (set (set (set (set (set (set xs at a) (p1 i) b) (p2 i) c) (p3 i) d) (p4 i) e) (p5 i) f) (p6 i) g) (p7 i) h) (p8 i) j
+-- stores behind others
+sets-append : (xs us vs : List ℤ) (at next : ℕ) → next ≡ at + length us → sets (sets xs at us) next vs ≡ sets xs at (us ++ vs)
+sets-append xs [] vs at next e = let z : next ≡ at = omega arith in rw z
+sets-append xs (u ∷ us) vs at next e = sets-append (set xs at u) us vs (suc at) next (omega arith)
+
+pub record-stores : (xs : List ℤ) (at : ℕ) (r : Record)
+    → sets (sets (sets xs at (nameNumbers r)) (at + movedPlace) (lineNumbers (r .moved))) (at + balancePlace) (lineNumbers (r .balance))
+    ≡ sets xs at (recordNumbers r)
+unfolding recordNumbers nameNumbers lineNumbers
+record-stores xs at r =
+    rw (sets-append xs (nameNumbers r) (lineNumbers (r .moved)) at (at + movedPlace) refl)
+    (sets-append xs (nameNumbers r ++ lineNumbers (r .moved)) (lineNumbers (r .balance)) at (at + balancePlace) refl)
 
 -- ---- records that stand as numbers are read as they were written
 
 -- the record behind another
 module _ (r : Record) (xs : List ℤ) (i : ℕ) where
-  first-behind : getD (recordNumbers r ++ xs) (suc i * recordSize) (pos 0) ≡ getD xs (i * recordSize) (pos 0)
-  unfolding recordNumbers
-  first-behind = let n : suc i * recordSize ≡ suc (suc (suc (suc (suc (suc (suc (suc (suc (i * recordSize))))))))) = omega arith in rw n
+  number-behind : (n k : ℕ) → n ≡ recordSize + k → getD (recordNumbers r ++ xs) n (pos 0) ≡ getD xs k (pos 0)
+  unfolding recordNumbers nameNumbers lineNumbers
+  number-behind n k e = let z : n ≡ suc (suc (suc (suc (suc (suc (suc (suc (suc k)))))))) = omega arith in rw z
 
-  number-behind : (j : ℕ) → getD (recordNumbers r ++ xs) (suc i * recordSize + j) (pos 0) ≡ getD xs (i * recordSize + j) (pos 0)
-  unfolding recordNumbers
-  number-behind j =
-      let n : suc i * recordSize + j ≡ suc (suc (suc (suc (suc (suc (suc (suc (suc (i * recordSize + j))))))))) = omega arith in
-      rw n
+  line-behind : (n k : ℕ) → n ≡ recordSize + k → lineIn (recordNumbers r ++ xs) n ≡ lineIn xs k
+  unfolding lineIn
+  line-behind n k e =
+      rw (number-behind n k e, number-behind (n + 1) (k + 1) (omega arith), number-behind (n + 2) (k + 2) (omega arith))
 
   record-behind : recordAt (recordNumbers r ++ xs) (suc i) ≡ recordAt xs i
   unfolding recordAt
   record-behind = rw (
-    first-behind,
-    number-behind 1,
-    number-behind 2,
-    number-behind 3,
-    number-behind 4,
-    number-behind 5,
-    number-behind 6,
-    number-behind 7,
-    number-behind 8,
+    number-behind (suc i * recordSize) (i * recordSize) (omega arith),
+    number-behind (suc i * recordSize + 1) (i * recordSize + 1) (omega arith),
+    number-behind (suc i * recordSize + 2) (i * recordSize + 2) (omega arith),
+    line-behind (suc i * recordSize + movedPlace) (i * recordSize + movedPlace) (omega arith),
+    line-behind (suc i * recordSize + balancePlace) (i * recordSize + balancePlace) (omega arith),
   )
+
+  line-places : (n k : ℕ) → n ≡ recordSize + k → LinePlaces xs k → LinePlaces (recordNumbers r ++ xs) n
+  line-places n k e p =
+      record {
+        inside = let h = p .inside in rw (length-append (recordNumbers r) xs, length-record r) (omega arith);
+        billionths = rw (number-behind (n + 2) (k + 2) (omega arith)) (p .billionths);
+      }
 
   places-behind : RecordPlaces xs i → RecordPlaces (recordNumbers r ++ xs) (suc i)
   places-behind p =
       record {
-        inside = let h = p .inside in rw (length-append (recordNumbers r) xs, length-record r) (omega arith);
-        kind = rw first-behind (p .kind);
-        supplier = rw (number-behind 1) (p .supplier);
-        element = rw (number-behind 2) (p .element);
-        billionths = rw (number-behind 5) (p .billionths);
-        balance = rw (number-behind 8) (p .balance);
+        kind = rw (number-behind (suc i * recordSize) (i * recordSize) (omega arith)) (p .kind);
+        supplier = rw (number-behind (suc i * recordSize + 1) (i * recordSize + 1) (omega arith)) (p .supplier);
+        element = rw (number-behind (suc i * recordSize + 2) (i * recordSize + 2) (omega arith)) (p .element);
+        moved = line-places (suc i * recordSize + movedPlace) (i * recordSize + movedPlace) (omega arith) (p .moved);
+        balance = line-places (suc i * recordSize + balancePlace) (i * recordSize + balancePlace) (omega arith) (p .balance);
       }
 
 record-front : (rs : List Record) (xs : List ℤ) (i : ℕ) → i < length rs → recordAt (numbersOf rs ++ xs) i ≡ getD rs i noRecord
 unfolding numbersOf
 record-front [] xs i h = absurd (omega arith)
-record-front (r ∷ rs) xs zero h = unfold recordAt recordNumbers in refl
+record-front (r ∷ rs) xs zero h = unfold recordAt recordNumbers nameNumbers lineNumbers lineIn in refl
 record-front (r ∷ rs) xs (suc i) h =
     ap (λ (l : List ℤ). recordAt l (suc i)) (append-assoc (recordNumbers r) (numbersOf rs) xs)
     ∙ record-behind r (numbersOf rs ++ xs) i
@@ -131,7 +132,13 @@ places-front : (rs : List Record) (xs : List ℤ) (i : ℕ) → i < length rs �
 unfolding numbersOf
 places-front [] xs i h = absurd (omega arith)
 places-front (r ∷ rs) xs zero h =
-    unfold recordNumbers in record { inside = omega arith; kind = tt; supplier = tt; element = tt; billionths = tt; balance = tt }
+    unfold recordNumbers nameNumbers lineNumbers in record {
+      kind = tt;
+      supplier = tt;
+      element = tt;
+      moved = record { inside = omega arith; billionths = tt };
+      balance = record { inside = omega arith; billionths = tt };
+    }
 places-front (r ∷ rs) xs (suc i) h =
     subst (λ (l : List ℤ). RecordPlaces l (suc i)) (sym (append-assoc (recordNumbers r) (numbersOf rs) xs))
     (places-behind r (numbersOf rs ++ xs) i (places-front rs xs i (omega arith)))

@@ -23,8 +23,8 @@ use Rattle.rules.specs.World.{World, lineCount, kronerOf, billionthsOf, storedA
 use Rattle.rules.specs.Lent.{Lists, worldIn, lendMoney}
 use Rattle.rules.specs.WellFormed.{linePlaces, lineRight, linesRight}
 use Rattle.rules.specs.Whole.{Whole}
-use Rattle.rules.specs.Effects.{supplierOf, elementOf, difference, unmoved, balance, recordOf, recordFor, recordsTo, records, isRound}
-use Rattle.rules.specs.Effects.{written, sentAfter}
+use Rattle.rules.specs.Effects.{supplierOf, elementOf, difference, unmoved, lineOf, balance, recordOf, recordFor, recordsTo, records}
+use Rattle.rules.specs.Effects.{isRound, written, sentAfter}
 use Rattle.rules.proofs.Tests.{cases, both}
 use Rattle.rules.proofs.Ranges.{within-low, within-high, all-at}
 use Rattle.rules.proofs.Parts.{lengths, formed}
@@ -116,29 +116,16 @@ sendable b ls ts h k l =
 
 -- ---- the records
 
+line-of : (r : Line) (q v : ℤ) (x y : ℕ) → LineOf r q v x y → r ≡ lineOf q v
+unfolding lineOf
+line-of r q v x y g = λ i. record { quantity = g .quantity i; kroner = g .kroner i; billionths = g .billionths i }
+
 pub record-is : (b : Book) (ls ts : List ℤ) (k : ℕ) (r l : Line) (x y u v : ℕ)
     → LineOf r (movedBy ls ts Measure.quantity (k * lineSize)) (movedBy ls ts Measure.amount (k * lineSize)) x y
     → LineOf l (storedAt ls Measure.quantity (k * lineSize)) (storedAt ls Measure.amount (k * lineSize)) u v
-    → record {
-      kind = b .round;
-      supplier = k / b .elements + 1;
-      element = k % b .elements;
-      quantity = r .quantity;
-      kroner = r .kroner;
-      billionths = r .billionths;
-      balance = l;
-    } ≡ lineRecord b ls ts k
+    → record { kind = b .round; supplier = k / b .elements + 1; element = k % b .elements; moved = r; balance = l } ≡ lineRecord b ls ts k
 unfolding lineRecord
-record-is b ls ts k r l x y u v g h =
-    λ i. record {
-      kind = b .round;
-      supplier = k / b .elements + 1;
-      element = k % b .elements;
-      quantity = g .quantity i;
-      kroner = g .kroner i;
-      billionths = g .billionths i;
-      balance = record { quantity = h .quantity i; kroner = h .kroner i; billionths = h .billionths i };
-    }
+record-is b ls ts k r l x y u v g h = rw (line-of r _ _ x y g, line-of l _ _ u v h)
 
 -- how many lines have moved, one line more at a time
 module _ (ls ts : List ℤ) where
@@ -190,7 +177,7 @@ module _ (b : Book) (ls ts : List ℤ) where
     world = worldIn b (lendMoney ls ts o)
 
     records-to : (k : ℕ) → k ≤ linesIn b → recordsTo world k ≡ lineRecords b ls ts k
-    unfolding recordsTo recordFor recordOf balance unmoved difference stored lineRecords lineRecord unmovedAt movedBy lineCount supplierOf elementOf
+    unfolding recordsTo recordFor recordOf lineOf balance unmoved difference stored lineRecords lineRecord unmovedAt movedBy lineCount supplierOf elementOf
     records-to zero l = refl
     records-to (suc k) l = rw (records-to k (omega arith), line-at (world .opening) k (unfold lineCount in omega arith))
 

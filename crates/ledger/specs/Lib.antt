@@ -2,5 +2,6 @@
 pub mod Amounts
 pub mod Bounds
 pub mod Added
+pub mod LineNumbers
 pub mod RecordNumbers
 pub mod Moved

@@ -12,8 +12,9 @@ use Rattle.rules.specs.declared.Record.{Record}
 use Rattle.rules.specs.Sizes.{mostSuppliers, mostElements, lineSize, recordSize, lastRound}
 use Rattle.rules.specs.Basics.{allTo}
 use Rattle.rules.specs.Lines.{Measure}
-use Rattle.rules.specs.World.{kronerOf, billionthsOf, storedAt}
+use Rattle.rules.specs.World.{storedAt}
 use Rattle.rules.specs.WellFormed.{lineRight}
+use Rattle.rules.specs.Effects.{lineOf}
 use Rattle.ledger.specs.RecordNumbers.{recordNumbers}
 
 -- how far the line from a place on has moved
@@ -35,14 +36,8 @@ lineRecord b ls ts k =
       kind = b .round;
       supplier = k / b .elements + 1;
       element = k % b .elements;
-      quantity = movedBy ls ts Measure.quantity (k * lineSize);
-      kroner = kronerOf (movedBy ls ts Measure.amount (k * lineSize));
-      billionths = billionthsOf (movedBy ls ts Measure.amount (k * lineSize));
-      balance = record {
-        quantity = storedAt ls Measure.quantity (k * lineSize);
-        kroner = kronerOf (storedAt ls Measure.amount (k * lineSize));
-        billionths = billionthsOf (storedAt ls Measure.amount (k * lineSize));
-      };
+      moved = lineOf (movedBy ls ts Measure.quantity (k * lineSize)) (movedBy ls ts Measure.amount (k * lineSize));
+      balance = lineOf (storedAt ls Measure.quantity (k * lineSize)) (storedAt ls Measure.amount (k * lineSize));
     }
 
 -- the records of those of the first n lines that have moved

@@ -1,18 +1,28 @@
 -- Records as numbers: nine a record, in the order of its fields, at the front of a lent list of numbers.
 use mathlib.Core.List.{List, [], _∷_, _++_}
-use Prim.Native.Nat.{ℕ, _+_, _*_, _≤_, _<_}
+use Prim.Native.Nat.{ℕ, _+_, _*_, _<_}
 use lib.IntN.{ℤ, pos, natAbs}
 use lib.ListN.{length, getD, drop}
 use lib.Signed.{nonNeg}
 use lib.Dec.{T}
 use Rattle.rules.specs.declared.Record.{Record}
-use Rattle.rules.specs.Sizes.{recordSize}
+use Rattle.rules.specs.Sizes.{lineSize, recordSize}
+use Rattle.ledger.specs.LineNumbers.{lineNumbers, lineIn, LinePlaces, signedRoom, SmallLine}
 
--- kind, supplier, element, quantity, kroner, billionths, and the balance's quantity, kroner, billionths
+-- kind, supplier, element
+unfoldable pub nameNumbers : Record → List ℤ
+nameNumbers r = pos (r .kind) ∷ pos (r .supplier) ∷ pos (r .element) ∷ []
+
+-- these, then the difference's quantity, kroner, billionths, and the balance's
 unfoldable pub recordNumbers : Record → List ℤ
-recordNumbers r =
-    pos (r .kind) ∷ pos (r .supplier) ∷ pos (r .element) ∷ r .quantity ∷ r .kroner ∷ pos (r .billionths)
-    ∷ r .balance .quantity ∷ r .balance .kroner ∷ pos (r .balance .billionths) ∷ []
+recordNumbers r = nameNumbers r ++ lineNumbers (r .moved) ++ lineNumbers (r .balance)
+
+-- where the difference and the balance begin
+abbrev pub movedPlace : ℕ
+movedPlace = 3
+
+abbrev pub balancePlace : ℕ
+balancePlace = movedPlace + lineSize
 
 unfoldable pub numbersOf : List Record → List ℤ
 numbersOf [] = []
@@ -29,37 +39,22 @@ recordAt ns i =
       kind = natAbs (getD ns (i * recordSize) (pos 0));
       supplier = natAbs (getD ns (i * recordSize + 1) (pos 0));
       element = natAbs (getD ns (i * recordSize + 2) (pos 0));
-      quantity = getD ns (i * recordSize + 3) (pos 0);
-      kroner = getD ns (i * recordSize + 4) (pos 0);
-      billionths = natAbs (getD ns (i * recordSize + 5) (pos 0));
-      balance = record {
-        quantity = getD ns (i * recordSize + 6) (pos 0);
-        kroner = getD ns (i * recordSize + 7) (pos 0);
-        billionths = natAbs (getD ns (i * recordSize + 8) (pos 0));
-      };
+      moved = lineIn ns (i * recordSize + movedPlace);
+      balance = lineIn ns (i * recordSize + balancePlace);
     }
 
--- a record stands there: kind, supplier, element and the billionths of both amounts are not below zero
+-- a record stands there: kind, supplier and element are not below zero, and behind them stand two lines
 pub record RecordPlaces (ns : List ℤ) (i : ℕ) : Type 0 where
-  pub inside : (i + 1) * recordSize ≤ length ns
   pub kind : T (nonNeg (getD ns (i * recordSize) (pos 0)))
   pub supplier : T (nonNeg (getD ns (i * recordSize + 1) (pos 0)))
   pub element : T (nonNeg (getD ns (i * recordSize + 2) (pos 0)))
-  pub billionths : T (nonNeg (getD ns (i * recordSize + 5) (pos 0)))
-  pub balance : T (nonNeg (getD ns (i * recordSize + 8) (pos 0)))
-
--- one more than the largest signed number of 64 bits
-abbrev pub signedRoom : ℕ
-signedRoom = 9223372036854775808
+  pub moved : LinePlaces ns (i * recordSize + movedPlace)
+  pub balance : LinePlaces ns (i * recordSize + balancePlace)
 
 -- numbers that fit 63 bits
 pub record SmallRecord (r : Record) : Type 0 where
   pub kind : r .kind < signedRoom
   pub supplier : r .supplier < signedRoom
   pub element : r .element < signedRoom
-  pub quantity : natAbs (r .quantity) < signedRoom
-  pub kroner : natAbs (r .kroner) < signedRoom
-  pub billionths : r .billionths < signedRoom
-  pub balance-quantity : natAbs (r .balance .quantity) < signedRoom
-  pub balance-kroner : natAbs (r .balance .kroner) < signedRoom
-  pub balance-billionths : r .balance .billionths < signedRoom
+  pub moved : SmallLine (r .moved)
+  pub balance : SmallLine (r .balance)

@@ -8,6 +8,9 @@ ghost use Rattle.rules.specs.Sizes.{mostLines};
 ghost use Rattle.rules.specs.Lent.{was, left};
 ghost use Rattle.rules.specs.Effects.{noRecord};
 ghost use Rattle.ledger.specs.RecordNumbers.{recordAt, RecordPlaces};
+use crate::lines::line_in;
+use crate::rounds::BALANCE_PLACE;
+use crate::rounds::MOVED_PLACE;
 use rules::Line;
 use rules::MOST_LINES;
 use rules::RECORD_SIZE;
@@ -23,14 +26,8 @@ pub fn record_at(numbers: &[i64], i: usize) -> Record
         kind: numbers[at] as u64,
         supplier: numbers[at + 1] as u64,
         element: numbers[at + 2] as u64,
-        quantity: numbers[at + 3],
-        kroner: numbers[at + 4],
-        billionths: numbers[at + 5] as u64,
-        balance: Line {
-            quantity: numbers[at + 6],
-            kroner: numbers[at + 7],
-            billionths: numbers[at + 8] as u64,
-        },
+        moved: line_in(numbers, at + MOVED_PLACE),
+        balance: line_in(numbers, at + BALANCE_PLACE),
     }
 }
 
@@ -52,18 +49,17 @@ pub fn listed(numbers: &[i64], count: usize) -> [Record; MOST_LINES]
     requires { ⌜ (count ≤ mostLines) × ((i : ℕ) → i < count → RecordPlaces (now numbers) i) ⌝ }
     ensures { λ r. ⌜ r ≡ listTo (recordAt (was numbers)) count ++ drop count (replicate mostLines noRecord) ⌝ }
 {
+    let line = Line {
+        quantity: 0,
+        kroner: 0,
+        billionths: 0,
+    };
     let mut list = [Record {
         kind: 0,
         supplier: 0,
         element: 0,
-        quantity: 0,
-        kroner: 0,
-        billionths: 0,
-        balance: Line {
-            quantity: 0,
-            kroner: 0,
-            billionths: 0,
-        },
+        moved: line,
+        balance: line,
     }; MOST_LINES];
     put_list(&mut list, numbers, count);
     list

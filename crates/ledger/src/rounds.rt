@@ -8,11 +8,12 @@ ghost use Rattle.rules.specs.Sizes.{lineSize, mostLines, recordSize, lastRound}
 ghost use Rattle.rules.specs.Lines.{Measure};
 ghost use Rattle.rules.specs.Lent.{was, left};
 ghost use Rattle.ledger.specs.Bounds.{LineOf, movedQuantity, movedKroner};
-ghost use Rattle.ledger.specs.RecordNumbers.{SmallRecord, recordNumbers, numbersAfter};
+ghost use Rattle.ledger.specs.RecordNumbers.{SmallRecord, nameNumbers, recordNumbers, movedPlace, numbersAfter};
 ghost use Rattle.ledger.specs.Moved.{movedBy, unmovedAt, linesIn, lineRecord, lineRecords, movedCount, lineCopied};
 ghost use Rattle.ledger.specs.Moved.{Comparable, Settled, Sendable, LineSent};
 use crate::lines::line_at;
 use crate::lines::line_difference;
+use crate::lines::put_line;
 use rules::Book;
 use rules::LAST_ROUND;
 use rules::LINE_SIZE;
@@ -74,17 +75,32 @@ fn record_of(book: Book, lines: &[i64], sent: &[i64], k: usize) -> Record
     ensures { λ r. ⌜ SmallRecord r × (r ≡ lineRecord book (was lines) (was sent) k) ⌝ }
 {
     let at = k * LINE_SIZE;
-    let moved = moved_by(lines, sent, at);
     let number = k as u64;
     Record {
         kind: book.round,
         supplier: number / book.elements + 1,
         element: number % book.elements,
-        quantity: moved.quantity,
-        kroner: moved.kroner,
-        billionths: moved.billionths,
+        moved: moved_by(lines, sent, at),
         balance: line_at(lines, at),
     }
+}
+
+// Where the difference and the balance begin among a record's numbers.
+pub const MOVED_PLACE: usize = 3;
+
+pub const BALANCE_PLACE: usize = MOVED_PLACE + LINE_SIZE;
+
+// The numbers of what a record is about, from place `at` on.
+fn put_names(out: &mut [i64], at: usize, r: Record)
+    requires { ⌜ SmallRecord r × (at + movedPlace ≤ length (now out)) ⌝ }
+    ensures { λ _. ⌜ left out ≡ sets (was out) at (nameNumbers r) ⌝ }
+{
+    let kind = r.kind as i64;
+    let supplier = r.supplier as i64;
+    let element = r.element as i64;
+    out[at] = kind;
+    out[at + 1] = supplier;
+    out[at + 2] = element;
 }
 
 // One record's numbers, from place `at` on.
@@ -92,25 +108,11 @@ fn put_record(out: &mut [i64], at: usize, r: Record)
     requires { ⌜ SmallRecord r × (at + recordSize ≤ length (now out)) ⌝ }
     ensures { λ _. ⌜ left out ≡ sets (was out) at (recordNumbers r) ⌝ }
 {
-    let kind = r.kind as i64;
-    let supplier = r.supplier as i64;
-    let element = r.element as i64;
-    let quantity = r.quantity;
-    let kroner = r.kroner;
-    let billionths = r.billionths as i64;
+    let moved = r.moved;
     let balance = r.balance;
-    let balance_quantity = balance.quantity;
-    let balance_kroner = balance.kroner;
-    let balance_billionths = balance.billionths as i64;
-    out[at] = kind;
-    out[at + 1] = supplier;
-    out[at + 2] = element;
-    out[at + 3] = quantity;
-    out[at + 4] = kroner;
-    out[at + 5] = billionths;
-    out[at + 6] = balance_quantity;
-    out[at + 7] = balance_kroner;
-    out[at + 8] = balance_billionths;
+    put_names(out, at, r);
+    put_line(out, at + MOVED_PLACE, moved);
+    put_line(out, at + BALANCE_PLACE, balance);
 }
 
 // ---- a round

@@ -16,7 +16,8 @@ use Rattle.integers.proofs.Sums.{sum-one}
 use Rattle.rules.specs.declared.Record.{Record}
 use Rattle.rules.specs.Lines.{Measure}
 use Rattle.rules.specs.World.{Opening, World, lineCount, stored, InBook}
-use Rattle.rules.specs.Effects.{supplierOf, elementOf, difference, unmoved, balance, recordOf, recordFor, recordsTo, records}
+use Rattle.rules.specs.Effects.{supplierOf, elementOf, difference, unmoved, lineOf, balance, recordOf, recordFor, recordsTo}
+use Rattle.rules.specs.Effects.{records}
 use Rattle.rules.specs.Queries.{LineResult, lineNamed}
 use Rattle.rules.specs.Claim.{isOf, moves, total, balanceOf, lastRecord}
 use Rattle.rules.proofs.Tests.{cases, both, eqb-ne}
@@ -44,7 +45,7 @@ unmoved-zero w m s e h =
     by Measure.amount a b = b
 
 moves-record : (w : World) (m : Measure) (s e : ℕ) → moves m (recordOf w s e) ≡ difference w m s e
-unfolding moves recordOf
+unfolding moves recordOf lineOf
 moves-record w Measure.quantity s e = refl
 moves-record w Measure.amount s e = amount-back (difference w Measure.amount s e)
 
@@ -100,7 +101,7 @@ abbrev pub storedLine : Opening → (lines : List ℤ) → (supplier element : �
 storedLine o ls s e = lineNamed (stored o ls Measure.quantity s e) (stored o ls Measure.amount s e)
 
 balance-record : (w : World) (s e : ℕ) → balanceOf (recordOf w s e) ≡ storedLine (w .opening) (w .position .lines) s e
-unfolding balanceOf recordOf balance lineNamed
+unfolding balanceOf recordOf lineOf balance lineNamed
 balance-record w s e = refl
 
 -- a line that has not moved is what was sent

@@ -69,8 +69,8 @@ isOf s e r = eqb (r .supplier) s && eqb (r .element) e
 
 -- what the records say of one supplier and element, in one measure
 unfoldable pub moves : Measure → Record → ℤ
-moves Measure.quantity r = r .quantity
-moves Measure.amount r = amountOf (r .kroner) (pos (r .billionths))
+moves Measure.quantity r = r .moved .quantity
+moves Measure.amount r = amountOf (r .moved .kroner) (pos (r .moved .billionths))
 
 unfoldable pub total : Measure → (supplier element : ℕ) → List Record → ℤ
 total m s e [] = pos 0

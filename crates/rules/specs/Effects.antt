@@ -115,14 +115,13 @@ difference w m s e = stored (w .opening) (w .position .lines) m s e -ℤ stored 
 unfoldable pub unmoved : World → (supplier element : ℕ) → Bool
 unmoved w s e = eqb (natAbs (difference w Measure.quantity s e)) 0 && eqb (natAbs (difference w Measure.amount s e)) 0
 
+-- a line of these two numbers
+unfoldable pub lineOf : (quantity amount : ℤ) → Line
+lineOf quantity amount = record { quantity = quantity; kroner = kronerOf amount; billionths = billionthsOf amount }
+
 -- what a line stands at. A round moves no line (`round-line` in proofs/Demand3.antt), so this is "the line's quantity and amount after it"
-unfoldable pub balance : World → (supplier element : ℕ) → Line
-balance w s e =
-    record {
-      quantity = stored (w .opening) (w .position .lines) Measure.quantity s e;
-      kroner = kronerOf (stored (w .opening) (w .position .lines) Measure.amount s e);
-      billionths = billionthsOf (stored (w .opening) (w .position .lines) Measure.amount s e);
-    }
+unfoldable pub balance : World → Measure → (supplier element : ℕ) → ℤ
+balance w m s e = stored (w .opening) (w .position .lines) m s e
 
 -- "one record with kind (1 fixing, 2 refixing, 3 any later), supplier, element and both differences"; "Each record shall also carry the
 -- line's quantity and amount after it."
@@ -132,24 +131,16 @@ recordOf w s e =
       kind = w .sent .round;
       supplier = s;
       element = e;
-      quantity = difference w Measure.quantity s e;
-      kroner = kronerOf (difference w Measure.amount s e);
-      billionths = billionthsOf (difference w Measure.amount s e);
-      balance = balance w s e;
+      moved = lineOf (difference w Measure.quantity s e) (difference w Measure.amount s e);
+      balance = lineOf (balance w Measure.quantity s e) (balance w Measure.amount s e);
     }
 
 -- what stands in a list where no record does
+abbrev pub noLine : Line
+noLine = record { quantity = pos 0; kroner = pos 0; billionths = 0 }
+
 abbrev pub noRecord : Record
-noRecord =
-    record {
-      kind = 0;
-      supplier = 0;
-      element = 0;
-      quantity = pos 0;
-      kroner = pos 0;
-      billionths = 0;
-      balance = record { quantity = pos 0; kroner = pos 0; billionths = 0 };
-    }
+noRecord = record { kind = 0; supplier = 0; element = 0; moved = noLine; balance = noLine }
 
 unfoldable pub recordFor : World → (supplier element : ℕ) → List Record
 recordFor w s e = cond (unmoved w s e) [] (recordOf w s e ∷ [])

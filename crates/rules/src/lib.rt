@@ -218,9 +218,7 @@ pub struct Record {
     pub kind: u64,
     pub supplier: u64,
     pub element: u64,
-    pub quantity: i64,
-    pub kroner: i64,
-    pub billionths: u64,
+    pub moved: Line,
     pub balance: Line,
 }
 

@@ -1,7 +1,7 @@
 -- `put_measures` meets its contract: its texts stand one behind the other, and have room.
-use mir.Facts.{toZ-ofZ}
 use Rattle.file.proofs.PlacedLaws.{joined}
 use Rattle.file.specs.Lines.{measuresThen}
+use Rattle.integers.proofs.Integers.{back}
 use native.Mathlib.Omega.{arith}
 use borrow.Author.Needs.{needs}
 use Rattle.file.proofs.output.put_measures.Statement.{statement}
@@ -25,8 +25,9 @@ returns c =
     let start : tie.Start = search in
     let first : tie.After-put-signed-then = search in
     let second : tie.After-put-signed-then2 = search in
-    let quantity = rw (toZ-ofZ (start .fits .quantity)) at (first .put-signed-then .ensures) in
-    let kroner = rw (toZ-ofZ (start .fits .kroner)) at (second .put-signed-then2 .ensures) in
+    let l = start .args .line in
+    let quantity = rw (back (l .quantity) (omega (arith, first .before .struct-told .given))) at (first .put-signed-then .ensures) in
+    let kroner = rw (back (l .kroner) (omega (arith, second .before .struct-told2 .given))) at (second .put-signed-then2 .ensures) in
     joined (joined quantity kroner (omega arith)) (c .before .before .put-number-then .ensures) (omega arith)
 
 pub put-measures-spec : {M : Type 1} → statement M

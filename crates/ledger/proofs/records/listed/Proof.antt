@@ -44,7 +44,6 @@ use denote.Triple.Table.{entered, cited}
 use denote.Triple.Walked.{says, needs, Stays, stay-none, stay-none-slice, walkOf, goes-none, goes-none-slice, Walks, ends-at, walked}
 use denote.Triple.Walked.{walk-meets}
 use denote.Exit.{yes}
-use Rattle.rules.specs.declared.Line.{Line}
 use Rattle.rules.specs.declared.Record.{Record}
 use Rattle.rules.proofs.Line as B
 use Rattle.rules.proofs.Line.Laws as B′
@@ -52,7 +51,7 @@ use Rattle.rules.specs.Basics.{listTo}
 use Rattle.rules.specs.Sizes.{mostLines}
 use Rattle.rules.proofs.Record as T
 use Rattle.rules.proofs.Record.Laws as T′
-use Rattle.rules.specs.Effects.{noRecord}
+use Rattle.rules.specs.Effects.{noLine, noRecord}
 use Rattle.ledger.specs.RecordNumbers.{recordAt, RecordPlaces}
 use Rattle.ledger.proofs.Lending.{Loan, loan, lent, val, HadShared, copies}
 use Rattle.ledger.proofs.LocalArray.{big-lit, repeated, Elements, at-local, val-local, stands, gathers, lends-local, local-back}
@@ -87,20 +86,17 @@ blank = replicate mostLines noRecord
 abbrev zeros : Val
 zeros = LL.val T.the-type T′.the-laws noRecord
 
--- a line that stands at nothing, and its machine value
-abbrev noBalance : Line
-noBalance = noRecord .balance
+-- the line of such an entry, and its machine value
+abbrev line-zeros : Val
+line-zeros = LL.val B.the-type B′.the-laws noLine
 
-abbrev zeros-balance : Val
-zeros-balance = LL.val B.the-type B′.the-laws noBalance
-
-zeros-balance-is : Is B.the-row noBalance (zeros-balance ∷ [])
-zeros-balance-is = LL.owes B.the-type B′.the-laws noBalance ((refl, lit< tt), ((refl, lit< tt), ((refl, lit< tt), tt)))
+line-zeros-is : Is B.the-row noLine (line-zeros ∷ [])
+line-zeros-is = LL.owes B.the-type B′.the-laws noLine ((refl, lit< tt), ((refl, lit< tt), ((refl, lit< tt), tt)))
 
 zeros-is : Is R noRecord (zeros ∷ [])
 zeros-is =
     LL.owes T.the-type T′.the-laws noRecord
-    ((refl, lit< tt), ((refl, lit< tt), ((refl, lit< tt), ((refl, lit< tt), ((refl, lit< tt), ((refl, lit< tt), (zeros-balance-is, tt)))))))
+    ((refl, lit< tt), ((refl, lit< tt), ((refl, lit< tt), (line-zeros-is, (line-zeros-is, tt)))))
 
 blank-long : length blank ≡ mostLines
 blank-long = length-replicate {A = Record} mostLines noRecord
@@ -180,7 +176,7 @@ module _ {M : Type 1} (𝓤 : URA M) (H : Heap 𝓤) (A : Atoms 𝓤) (W : Given
 
       module _ (l0 l1 l2 l3 l4 l5 l6 l7 l8 : ℕ) where
         abbrev E : Env 𝓤 H
-        E = (tyArray T′.mir mostLines, l0) ∷ (τ-numbers, l1) ∷ (tyInt w64, l2) ∷ (tyArray T′.mir mostLines, l3) ∷ (B′.mir, l4) ∷
+        E = (tyArray T′.mir mostLines, l0) ∷ (τ-numbers, l1) ∷ (tyInt w64, l2) ∷ (B′.mir, l3) ∷ (tyArray T′.mir mostLines, l4) ∷
             (T′.mir, l5) ∷ (tyUnit, l6) ∷ (τ-ref, l7) ∷ (τ-list, l8) ∷ []
 
         -- the parameters and the place of the result
@@ -191,59 +187,59 @@ module _ {M : Type 1} (𝓤 : URA M) (H : Heap 𝓤) (A : Atoms 𝓤) (W : Given
 
         -- behind the call: the list is an array again, and is returned
         returned : (zs : List Record) → length zs ≡ mostLines → AtFront zs
-            → Sq W (‵ (Elements R mostLines l3 zs) ∷ ‵ (HadShared numbers (named 0)) ∷ ‵ (froom τ-list l8 0) ∷ ‵ (fdies τ-list l8)
+            → Sq W (‵ (Elements R mostLines l4 zs) ∷ ‵ (HadShared numbers (named 0)) ∷ ‵ (froom τ-list l8 0) ∷ ‵ (fdies τ-list l8)
             ∷ ‵ (froom τ-ref l7 0) ∷ ‵ (fdies τ-ref l7) ∷ ‵ (froom tyUnit l6 0) ∷ ‵ (fdies tyUnit l6) ∷ ‵ (froom T′.mir l5 0)
-            ∷ ‵ (fdies T′.mir l5) ∷ ‵ (froom B′.mir l4 0) ∷ ‵ (fdies B′.mir l4) ∷ ‵ (fdies (tyArray T′.mir mostLines) l3) ∷ held)
+            ∷ ‵ (fdies T′.mir l5) ∷ ‵ (fdies (tyArray T′.mir mostLines) l4) ∷ ‵ (froom B′.mir l3 0) ∷ ‵ (fdies B′.mir l3) ∷ held)
             (runs C Λ E mir.t-7 (atRet E Post))
         returned zs long e =
-            use1 W (some (λ (v : Val). ‵ (fat fullShare (tyArray T′.mir mostLines) l3 0 v) ⊛ ‵ (Array R mostLines .own zs (v ∷ []))))
-            (gathers 𝓤 H A W R tt mostLines l3 _ (LL.tells T.the-type T′.the-laws) zs long) $ pick ! (λ v. split ! $ move ! (1 ∷ []) $
+            use1 W (some (λ (v : Val). ‵ (fat fullShare (tyArray T′.mir mostLines) l4 0 v) ⊛ ‵ (Array R mostLines .own zs (v ∷ []))))
+            (gathers 𝓤 H A W R tt mostLines l4 _ (LL.tells T.the-type T′.the-laws) zs long) $ pick ! (λ v. split ! $ move ! (1 ∷ []) $
             peeks ! (Array R mostLines) (Is (Array R mostLines)) (shows 𝓤 H A (Array R mostLines)) zs (v ∷ []) (λ is.
             assigns ! (of-opd ! (load ! (from ! (stop !)) (look ! 1 refl))) (from ! (stop !))
             (init ! 18 refl (array-lawful 𝓤 H A W R (LL.lawful T.the-type T′.the-laws 𝓤 H A W) mostLines .typed zs _ is .0)) $
             returns ! (look ! 18 refl) $ forget ! 1 refl $ forget ! 14 refl $ forget ! 16 refl $ forget ! 18 refl $
             move ! (18 ∷ 19 ∷ []) $ free1 ! $ move ! (16 ∷ 17 ∷ []) $ free1 ! $ move ! (14 ∷ 15 ∷ []) $ free1 ! $
-            move ! (1 ∷ 13 ∷ []) $ free1 ! $ move ! (10 ∷ 11 ∷ []) $ free1 ! $ move ! (8 ∷ 9 ∷ []) $ free1 ! $
+            move ! (12 ∷ 13 ∷ []) $ free1 ! $ move ! (1 ∷ 11 ∷ []) $ free1 ! $ move ! (8 ∷ 9 ∷ []) $ free1 ! $
             move ! (6 ∷ 7 ∷ []) $ free1 ! $ move ! (4 ∷ 5 ∷ []) $ free1 ! $ move ! (2 ∷ 3 ∷ []) $ free1 ! $ free0 ! $
             by ! (exits zs v e)))
 
         -- the list is filled, lent to `put_list`, and taken back
         filled : Sq W (‵ (HadShared numbers (named 0)) ∷ ‵ (froom τ-list l8 0) ∷ ‵ (fdies τ-list l8) ∷ ‵ (froom τ-ref l7 0)
             ∷ ‵ (fdies τ-ref l7) ∷ ‵ (froom tyUnit l6 0) ∷ ‵ (fdies tyUnit l6) ∷ ‵ (froom T′.mir l5 0) ∷ ‵ (fdies T′.mir l5)
-            ∷ ‵ (froom B′.mir l4 0) ∷ ‵ (fdies B′.mir l4) ∷ ‵ (froom (tyArray T′.mir mostLines) l3 0)
-            ∷ ‵ (fdies (tyArray T′.mir mostLines) l3) ∷ held) (runs C Λ E mir.t-1 (atRet E Post))
+            ∷ ‵ (froom (tyArray T′.mir mostLines) l4 0) ∷ ‵ (fdies (tyArray T′.mir mostLines) l4) ∷ ‵ (froom B′.mir l3 0)
+            ∷ ‵ (fdies B′.mir l3) ∷ held) (runs C Λ E mir.t-1 (atRet E Post))
         filled =
             assigns ! (agg ! (and-then ! (lit ! tt) (and-then ! (lit ! tt) (and-then ! (lit ! tt) (no-more !))))) (from ! (stop !))
-            (init ! 9 refl (LL.lawful B.the-type B′.the-laws 𝓤 H A W .typed noBalance _ zeros-balance-is .0)) $
-            assigns ! (agg ! (and-then ! (lit ! tt) (and-then ! (lit ! tt) (and-then ! (lit ! tt) (and-then ! (lit ! tt)
-            (and-then ! (lit ! tt) (and-then ! (lit ! tt) (and-then ! (load ! (from ! (stop !)) (look ! 9 refl)) (no-more !)))))))))
+            (init ! 11 refl (LL.lawful B.the-type B′.the-laws 𝓤 H A W .typed noLine _ line-zeros-is .0)) $
+            assigns ! (agg ! (and-then ! (lit ! tt) (and-then ! (lit ! tt) (and-then ! (lit ! tt)
+            (and-then ! (load ! (from ! (stop !)) (look ! 11 refl)) (and-then ! (load ! (from ! (stop !)) (look ! 11 refl)) (no-more !)))))))
             (from ! (stop !))
             (init ! 7 refl (LL.lawful T.the-type T′.the-laws 𝓤 H A W .typed noRecord _ zeros-is .0)) $
-            assigns ! (rep ! mostLines (load ! (from ! (stop !)) (look ! 7 refl))) (from ! (stop !)) (init ! 11 refl (array-lawful 𝓤 H A W R
+            assigns ! (rep ! mostLines (load ! (from ! (stop !)) (look ! 7 refl))) (from ! (stop !)) (init ! 9 refl (array-lawful 𝓤 H A W R
             (LL.lawful T.the-type T′.the-laws 𝓤 H A W) mostLines .typed blank _ (repeated R noRecord zeros zeros-is mostLines) .0)) $
-            forget ! 7 refl $ forget ! 9 refl $ move ! (11 ∷ []) $ use1 W (‵ (Elements R mostLines l3 blank))
-            (stands 𝓤 H A W R tt mostLines l3 (LL.makes T.the-type T′.the-plain 𝓤 H A) noRecord zeros zeros-is) $
+            forget ! 7 refl $ forget ! 11 refl $ move ! (9 ∷ []) $ use1 W (‵ (Elements R mostLines l4 blank))
+            (stands 𝓤 H A W R tt mostLines l4 (LL.makes T.the-type T′.the-plain 𝓤 H A) noRecord zeros zeros-is) $
             assigns ! (addr ! (from ! (stop !))) (from ! (stop !)) (init ! 4 refl (tt, tt)) $
             assigns ! (agg ! (and-then ! (load ! (from ! (stop !)) (look ! 4 refl))
             (and-then ! (big-lit ! (record { fits = lit< tt })) (no-more !)))) (from ! (stop !))
             (init ! 2 refl (tt, (tt, (record { fits = lit< tt }, tt)))) $
-            lends-local ! tt R mostLines l3 (named 0) blank blank-long room-list (λ ν δ. move ! (3 ∷ []) $ copies ! numbers (named 0) $
+            lends-local ! tt R mostLines l4 (named 0) blank blank-long room-list (λ ν δ. move ! (3 ∷ []) $ copies ! numbers (named 0) $
             nothing ! $ move ! (3 ∷ 0 ∷ []) $ fjoin ! $ move ! (5 ∷ 0 ∷ []) $ fjoin ! $ nothing ! $
             owned ! usize (Is usize) (uint-makes 𝓤 H A W w64) count _ count-is $ fjoin ! $ move ! (2 ∷ 0 ∷ []) $ fjoin ! $
             move ! (3 ∷ 0 ∷ []) $ fjoin ! $ move ! (1 ∷ 0 ∷ []) $
-            use2 W (raw (C-put-list 𝓤 H A mem run .pre (to l3 ν δ))) (asked l3 ν δ) $
-            calls-at ! fm (C-put-list 𝓤 H A mem run) known (to l3 ν δ) (and-then ! (load ! (from ! (stop !)) (look ! 3 refl))
+            use2 W (raw (C-put-list 𝓤 H A mem run .pre (to l4 ν δ))) (asked l4 ν δ) $
+            calls-at ! fm (C-put-list 𝓤 H A mem run) known (to l4 ν δ) (and-then ! (load ! (from ! (stop !)) (look ! 3 refl))
             (and-then ! (load ! (from ! (stop !)) (look ! 16 refl)) (and-then ! (load ! (from ! (stop !)) (look ! 14 refl)) (no-more !))))
-            (λ v. use1 W (later (some (λ (r : Unit {0}). (‵ (Toks l3 ν δ) ⊛ ‵ (Nothing .own r (v ∷ []))) ⊛ raw
-            (ensured 𝓤 H A put-list.ended (put-list.clauses 𝓤 H A mem run) (κs l3 ν δ) (passed l3 ν δ) tt r)))) (id⊢ 𝓤 _) $ await ! tt $
+            (λ v. use1 W (later (some (λ (r : Unit {0}). (‵ (Toks l4 ν δ) ⊛ ‵ (Nothing .own r (v ∷ []))) ⊛ raw
+            (ensured 𝓤 H A put-list.ended (put-list.clauses 𝓤 H A mem run) (κs l4 ν δ) (passed l4 ν δ) tt r)))) (id⊢ 𝓤 _) $ await ! tt $
             pick ! (λ r. split ! $ move ! (1 ∷ []) $
-            use1 W (some (λ (zs : Lasts put-list.ended (κs l3 ν δ) (passed l3 ν δ)).
-            ‵ (lasts put-list.ended (κs l3 ν δ) (passed l3 ν δ) zs) ⊛ raw (fact 𝓤 (AtFront (zs .0))))) (id⊢ 𝓤 _) $ pick ! (λ zs. split ! $
+            use1 W (some (λ (zs : Lasts put-list.ended (κs l4 ν δ) (passed l4 ν δ)).
+            ‵ (lasts put-list.ended (κs l4 ν δ) (passed l4 ν δ) zs) ⊛ raw (fact 𝓤 (AtFront (zs .0))))) (id⊢ 𝓤 _) $ pick ! (λ zs. split ! $
             move ! (1 ∷ []) $ heard ! (AtFront (zs .0)) (λ e. fsplit ! $ fsplit ! $ move ! (1 ∷ []) $ feqL ! (λ long. move ! (1 ∷ []) $
             fsplit ! $ drop ! $ fsplit ! $ drop ! $ drop ! $ move ! (1 ∷ []) $ split ! $ fsplit ! $ move ! (1 ∷ []) $ fsplit ! $
             move ! (1 ∷ []) $ drop ! $ move ! (2 ∷ []) $
             feqL ! (λ is. land ! (from ! (stop !)) (init ! 9 refl (nothing-lawful 𝓤 H A W .typed tt _ is .0)) $ move ! (1 ∷ 4 ∷ 2 ∷ []) $
-            local-back ! tt R mostLines l3 ν δ (zs .0) $ move !
+            local-back ! tt R mostLines l4 ν δ (zs .0) $ move !
             (2 ∷ 1 ∷ []) $ fjoin ! $ forget ! 2 refl $ forget ! 4 refl $ forget ! 6 refl $
             move ! (1 ∷ []) $ returned (zs .0) (long ∙ blank-long) e)))))))
 
