@@ -212,7 +212,8 @@ module _ {M : Type 1} (𝓤 : URA M) (H : Heap 𝓤) (A : Atoms 𝓤) (W : Given
             assigns ! (agg ! (and-then ! (lit ! tt) (and-then ! (lit ! tt) (and-then ! (lit ! tt) (no-more !))))) (from ! (stop !))
             (init ! 11 refl (LL.lawful B.the-type B′.the-laws 𝓤 H A W .typed noLine _ line-zeros-is .0)) $
             assigns ! (agg ! (and-then ! (lit ! tt) (and-then ! (lit ! tt) (and-then ! (lit ! tt)
-            (and-then ! (load ! (from ! (stop !)) (look ! 11 refl)) (and-then ! (load ! (from ! (stop !)) (look ! 11 refl)) (no-more !)))))))
+            (and-then ! (load ! (from ! (stop !)) (look ! 11 refl))
+            (and-then ! (load ! (from ! (stop !)) (look ! 11 refl)) (no-more !)))))))
             (from ! (stop !))
             (init ! 7 refl (LL.lawful T.the-type T′.the-laws 𝓤 H A W .typed noRecord _ zeros-is .0)) $
             assigns ! (rep ! mostLines (load ! (from ! (stop !)) (look ! 7 refl))) (from ! (stop !)) (init ! 9 refl (array-lawful 𝓤 H A W R
