@@ -14,6 +14,7 @@ use Rattle.integers.proofs.Linear.{back-again, less-itself}
 use Rattle.integers.specs.Sums.{sumTo}
 use Rattle.integers.proofs.Sums.{sum-cong}
 use Rattle.rules.specs.Sizes.{holderSize}
+use Rattle.rules.specs.declared.Fields.{Fields}
 use Rattle.rules.specs.declared.Body.{Body}
 use Rattle.rules.specs.declared.Body.the-variants.{Link, Stop, Quantity, Holder, State, Reading, Block, Round}
 use Rattle.rules.specs.declared.Message.{Message}
@@ -329,8 +330,8 @@ balance-of : (h : History) (o : Opening) → Inv o h → (s e : ℕ) → InBook 
 balance-of h o i s e b r l =
     i .balance s e b r l ∙ ap₂ lineNamed (sym (i .sent Measure.quantity s e b)) (sym (i .sent Measure.amount s e b))
 
--- A round moves no line, of whatever book: what was stored before it is what the line query answers after it.
-round-line : (w : World) → Whole (posted w Round) → (s e : ℕ) → InBook (w .opening) s e
+-- a round moves no line: what was stored before it is what the line query answers after it
+pub round-line : (w : World) → Whole (posted w Round) → (s e : ℕ) → InBook (w .opening) s e
     → storedLine (w .opening) (w .position .lines) s e ≡ lineQuery (posted w Round) s e
 unfolding posted linesAfter movedLines movedLine tablesAfter told
 round-line w c s e b =
@@ -340,11 +341,6 @@ round-line w c s e b =
         ≡ stored (w .opening) (posted w Round .position .lines) m s e
     same m = sym (stored-lines (w .opening) _ m s e b
         ∙ rw (less-itself (line (termsOf (w .opening)) (factsOf (w .opening) (w .position .tables)) m s e), +ℤ-idr))
-
--- so each of its records carries that
-pub round-carries : (w : World) → Whole (posted w Round) → (r : Record) → List·Memᴰ r (records w)
-    → balanceOf r ≡ lineQuery (posted w Round) (r .supplier) (r .element)
-round-carries w c r m = let b = each-balance w r m in b .1 ∙ round-line w c (r .supplier) (r .element) (b .0)
 
 -- what was sent is then the line, and so the last balance is
 round-balance : (h : History) (o : Opening) → Inv o (after h (some Round)) → (s e : ℕ) → InBook (h .world .opening) s e
@@ -375,13 +371,15 @@ round-written w (some b) r m = cases (isRound b)
     (λ t. ap some (is-round b t))
     (λ t. absurd (List·Memᴰ·not-nil (rw t at m)))
 
-each-of : (h : History) (o : Opening) → Inv o h → (v : Event) (r : Record)
-    → List·Memᴰ r (recordsOf (h .world) (v .fields) (length (v .lent)))
-    → balanceOf r ≡ lineQuery (advance h v .world) (r .supplier) (r .element)
-unfolding recordsOf writtenBy written isRound after stepBy
-each-of h o i v r m =
-    let c = round-written (h .world) (accepted (h .world) (v .fields) (length (v .lent))) r m in
-    rw (advance-is h v, c) (round-carries (h .world) (inv-after o h i v Round c .whole) r (rw c at m))
+-- Each record that a message writes carries what the line query answers after it, of whatever book: one that is not well formed refuses.
+pub record-carries : (w : World) (f : Fields) (room : ℕ) (r : Record) → List·Memᴰ r (recordsOf w f room)
+    → balanceOf r ≡ lineQuery (step w f room) (r .supplier) (r .element)
+unfolding recordsOf writtenBy written isRound step stepBy
+record-carries w f room r m =
+    let c = round-written w (accepted w f room) r m in
+    let k = taken w f room Round c in
+    let b = each-balance w r (rw c at m) in
+    rw c (b .1 ∙ round-line w (posted-whole w Round (k .whole) (k .ready) (k .fits)) (r .supplier) (r .element) (b .0))
 
 -- ---- demand 3
 
@@ -421,7 +419,8 @@ module _ (w : World) (a : openingAnswer w ≡ 0) (vs : List Event) where
 
     each-next : (r : Record) → List·Memᴰ r (recordsOf (x .world) (v .fields) (length (v .lent)))
         → balanceOf r ≡ lineQuery (reached w (vs ++ (v ∷ [])) .world) (r .supplier) (r .element)
-    each-next r m = rw (snoc v) (each-of x (w .opening) i v r m)
+    unfolding advance
+    each-next r m = rw (snoc v) (record-carries (x .world) (v .fields) (length (v .lent)) r m)
 
     full-next : (b : Message) → understood (w .opening .suppliers) (v .fields) ≡ some b
         → answer (x .world) (v .fields) (length (v .lent)) ≡ 17 → rowsFit (tablesAfter (x .world) (b .body)) ≡ false

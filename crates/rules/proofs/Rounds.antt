@@ -31,8 +31,8 @@ pub total-append : (m : Measure) (s e : ℕ) (xs ys : List Record) → total m s
 unfolding total
 total-append m s e [] ys = sym (+ℤ-idl (total m s e ys))
 total-append m s e (r ∷ rs) ys =
-    ap (λ x. cond (eqb (r .supplier) s && eqb (r .element) e) (moves m r) (pos 0) +ℤ x) (total-append m s e rs ys)
-    ∙ sym (+ℤ-assoc (cond (eqb (r .supplier) s && eqb (r .element) e) (moves m r) (pos 0)) (total m s e rs) (total m s e ys))
+    ap (λ x. cond (isOf s e r) (moves m r) (pos 0) +ℤ x) (total-append m s e rs ys)
+    ∙ sym (+ℤ-assoc (cond (isOf s e r) (moves m r) (pos 0)) (total m s e rs) (total m s e ys))
 
 unmoved-zero : (w : World) (m : Measure) (s e : ℕ) → unmoved w s e ≡ true → difference w m s e ≡ pos 0
 unfolding unmoved
@@ -117,9 +117,9 @@ same-line w s e h = ap₂ lineNamed (same Measure.quantity) (same Measure.amount
         ∙ back-again (stored (w .opening) (w .sent .totals) m s e) (stored (w .opening) (w .position .lines) m s e)
 
 -- a record is of one line of the book
-pub record LineRecord (w : World) (r : Record) : Type 0 where
-  pub line : InBook (w .opening) (r .supplier) (r .element)
-  pub is : r ≡ recordOf w (r .supplier) (r .element)
+record LineRecord (w : World) (r : Record) : Type 0 where
+  line : InBook (w .opening) (r .supplier) (r .element)
+  is : r ≡ recordOf w (r .supplier) (r .element)
 
 line-record : (w : World) (s e : ℕ) → InBook (w .opening) s e → LineRecord w (recordOf w s e)
 unfolding recordOf
