@@ -35,7 +35,8 @@
  *   15  it is no tariff, and it is linked on the day
  *   16  the reading's day is in the month
  *   17  rows and lines fit
- *   18  the list holds every record */
+ *   18  the list holds every record
+ *   24  the bytes are eight; a sum to be packed has at most fifteen digits; bytes that are read are a packed amount */
 #define SETTLEMENT_BOOK_ACCEPTED 0
 #define SETTLEMENT_BOOK_WRONG_LENGTH 3
 
@@ -120,6 +121,13 @@
 #define SETTLEMENT_BOOK_RECORD_SIZE 9
 /* where the balance begins in a record; it has the numbers of a line */
 #define SETTLEMENT_BOOK_RECORD_BALANCE 6
+
+/* ---- a packed amount
+ *
+ * An amount in øre for the ledger, in packed decimal: eight bytes, each of two half-bytes, the upper one first. Fifteen half-bytes are the
+ * digits, the highest first; the last one is the sign, C for zero and above or D below. Minus zero is no packed amount, so every amount
+ * from -999,999,999,999,999 to 999,999,999,999,999 øre has one form: -7 øre are 00 00 00 00 00 00 00 7D. */
+#define SETTLEMENT_BOOK_PACKED_SIZE 8
 
 /* ---- the functions
  *
@@ -215,6 +223,28 @@ uint64_t settlement_book_day_without_holder(
     uint64_t point,
     uint64_t *day);
 
+/* What a supplier owes for the elements of an owner (1 grid company, 2 Energinet), as a packed amount: the amounts of those lines, added up
+ * and then rounded once to the øre, halves away from zero. The sign is that of the rounded sum. Answers 0, 2 to 6 or 24.
+ * At 0 the eight bytes are written. A book that was opened and has only taken messages since has no sum of more than fifteen digits. */
+uint64_t settlement_book_packed_sum(
+    const uint64_t *book, size_t book_length,
+    const uint8_t *element_data, size_t element_data_length,
+    const int64_t *prices, size_t prices_length,
+    const uint64_t *links, size_t links_length,
+    const uint64_t *holders, size_t holders_length,
+    const uint64_t *states, size_t states_length,
+    const uint32_t *readings, size_t readings_length,
+    const uint8_t *blocks, size_t blocks_length,
+    const int64_t *lines, size_t lines_length,
+    const int64_t *sent, size_t sent_length,
+    uint64_t supplier,
+    uint64_t owner,
+    uint8_t *bytes, size_t bytes_length);
+
+/* Reads a packed amount. Answers 0 or 24.
+ * At 0 *amount is the amount in øre. */
+uint64_t settlement_book_read_packed(const uint8_t *bytes, size_t bytes_length, int64_t *amount);
+
 /* ---- for the Rust wrapper (library/src/book.rs) and nobody else
  *
  * These ask no question of the book. Their caller sees to it that book, fields and line have their sizes, that every table has the length
@@ -260,6 +290,14 @@ uint64_t settlement_book_day_without_holder_within(
     const uint64_t *states, size_t states_length,
     uint64_t point,
     uint64_t *day);
+
+uint64_t settlement_book_packed_sum_within(
+    const uint64_t *book, size_t book_length,
+    const uint8_t *element_data, size_t element_data_length,
+    const int64_t *lines, size_t lines_length,
+    uint64_t supplier,
+    uint64_t owner,
+    uint8_t *bytes, size_t bytes_length);
 
 #ifdef __cplusplus
 }

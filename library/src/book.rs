@@ -16,6 +16,10 @@
 //! - All tables are their own allocations, so no two slices overlap, and `&mut self`
 //!   or `&self` holds them for the time of the call. Every number is an integer of
 //!   the same width on both sides, and no pointer is kept.
+//!
+//! What is lent beside a book is a value of the call itself, or its caller's, by a
+//! reference that holds it for the time of the call: `&mut` where it is written.
+//! [`read_packed`] is lent no book, and its exported function asks nothing.
 
 use crate::{Counts, Element, Fields, Line, Month, Period, Question, RECORD_SIZE, Record};
 use settlement_file::days_in_month;
@@ -24,6 +28,8 @@ use settlement_file::days_in_month;
 const BOOK_SIZE: usize = 11;
 const FIELDS_SIZE: usize = 9;
 const LINE_SIZE: usize = 3;
+/// The bytes of a packed amount.
+pub const PACKED_SIZE: usize = 8;
 // The list of records is lent as the numbers that its records are.
 const _: () = assert!(size_of::<Record>() == RECORD_SIZE * size_of::<i64>());
 /// Places for periods, for holders and for states.
@@ -74,6 +80,10 @@ exported! { const:
         place: *mut u64, count: *mut u64, read: *mut u64
     );
     settlement_book_day_without_holder(point: u64, day: *mut u64);
+    settlement_book_packed_sum(
+        supplier: u64, owner: u64,
+        bytes: *mut u8, bytes_length: usize
+    );
 }
 
 // The queries of a well-formed book are lent the tables that they read.
@@ -99,6 +109,18 @@ unsafe extern "C" {
         point: u64,
         day: *mut u64,
     ) -> u64;
+    fn settlement_book_packed_sum_within(
+        book: *const u64, book_length: usize,
+        element_data: *const u8, element_data_length: usize,
+        lines: *const i64, lines_length: usize,
+        supplier: u64, owner: u64,
+        bytes: *mut u8, bytes_length: usize,
+    ) -> u64;
+}
+
+// Lent no book.
+unsafe extern "C" {
+    fn settlement_book_read_packed(bytes: *const u8, bytes_length: usize, amount: *mut i64) -> u64;
 }
 
 /// Calls an exported function with a book's tables, for writing.
@@ -376,6 +398,49 @@ impl Book {
         Question::none_of(answer).map(|()| (day < NO_DAY).then_some(day))
     }
 
+    /// What a supplier owes for the elements of an owner, 1 the grid company or 2
+    /// Energinet, as a packed amount: the amounts of those lines added up, then rounded
+    /// once to the øre, halves away from zero. Or question 6. The sum of a book that was
+    /// opened always has few enough digits, so question 24 never says no.
+    #[inline]
+    pub fn packed_sum(&self, supplier: u64, owner: u64) -> Result<[u8; PACKED_SIZE], Question> {
+        let mut bytes = [0; PACKED_SIZE];
+        // Safety: a book's numbers, and the book is well formed.
+        let answer = unsafe {
+            settlement_book_packed_sum_within(
+                self.numbers.as_ptr(),
+                self.numbers.len(),
+                self.element_data.as_ptr(),
+                self.element_data.len(),
+                self.lines.as_ptr(),
+                self.lines.len(),
+                supplier,
+                owner,
+                bytes.as_mut_ptr(),
+                bytes.len(),
+            )
+        };
+        Question::none_of(answer).map(|()| bytes)
+    }
+
+    /// The same through the exported function that asks questions 2 to 5 first.
+    pub fn packed_sum_checked(
+        &self,
+        supplier: u64,
+        owner: u64,
+    ) -> Result<[u8; PACKED_SIZE], Question> {
+        let mut bytes = [0; PACKED_SIZE];
+        let (lent, length) = (bytes.as_mut_ptr(), bytes.len());
+        // Safety: the function takes anything; each slice is a list with its length.
+        let answer = unsafe {
+            read_with!(
+                self,
+                settlement_book_packed_sum(supplier, owner, lent, length)
+            )
+        };
+        Question::none_of(answer).map(|()| bytes)
+    }
+
     /// The month of the book.
     pub fn month(&self) -> Month {
         Month {
@@ -402,6 +467,16 @@ impl Book {
             elements: self.numbers[4],
         }
     }
+}
+
+/// The øre of a packed amount: eight bytes, fifteen digits, highest first from the upper
+/// half of the first byte, and in the last half-byte C for zero and above or D below. Or
+/// question 24: another length, a digit above 9, another sign, or minus zero.
+pub fn read_packed(bytes: &[u8]) -> Result<i64, Question> {
+    let mut amount = 0;
+    // Safety: the function takes anything; the slice is a list with its length.
+    let answer = unsafe { settlement_book_read_packed(bytes.as_ptr(), bytes.len(), &mut amount) };
+    Question::none_of(answer).map(|()| amount)
 }
 
 fn line_of([quantity, kroner, billionths]: [i64; LINE_SIZE]) -> Line {
@@ -445,6 +520,9 @@ mod tests {
     fn book() -> Book {
         book_of(1, 1)
     }
+
+    /// What makes a book wrong.
+    type Slip = fn(&mut Book);
 
     fn link(point: u64, element: u64, day: u64) -> Fields {
         Fields::from([1, 1, 0, 8826, point, element, day, 0, 1])
@@ -537,7 +615,7 @@ mod tests {
             Some(Question::UnknownPoint)
         );
         assert_eq!(read, 0);
-        let slips: [(u64, fn(&mut Book)); 4] = [
+        let slips: [(u64, Slip); 4] = [
             (2, |book| book.numbers[0] = 1999),
             (3, |book| book.blocks = zeros(2)),
             (4, |book| book.element_data[0] = 4),
@@ -621,6 +699,382 @@ mod tests {
             if !behind.is_empty() {
                 assert_eq!(periods_lent(&other, point, element), (5, 6, 7, 0));
             }
+        }
+    }
+
+    const KRONE: i128 = 1_000_000_000;
+    const ORE: i128 = KRONE / 100;
+    /// What fifteen digits come to, in øre.
+    const MOST: i128 = 999_999_999_999_999;
+    /// What question 5 lets a line come to.
+    const MOST_LINE: i128 = 1_000_000_000_000 * KRONE;
+    /// What the lent bytes were.
+    const LENT: u8 = 0x5a;
+
+    /// A book whose lines were not settled: its elements have these owners, and its lines
+    /// these amounts in billionths of a krone, supplier 1's and then supplier 2's.
+    fn book_owing(owners: &[u8], amounts: &[i128]) -> Book {
+        let mut book = book_of(1, owners.len() as u64);
+        for (element, owner) in owners.iter().enumerate() {
+            book.element_data[3 * element + 1] = *owner;
+        }
+        for (line, amount) in book.lines.chunks_exact_mut(LINE_SIZE).zip(amounts) {
+            line[1] = amount.div_euclid(KRONE) as i64;
+            line[2] = amount.rem_euclid(KRONE) as i64;
+        }
+        book
+    }
+
+    /// One in which the grid company's lines of supplier 1 add up to this, each of them
+    /// within question 5.
+    fn book_owing_in_all(sum: i128) -> Book {
+        let mut left = sum;
+        let amounts = [(); 12].map(|()| {
+            let amount = left.clamp(-MOST_LINE, MOST_LINE);
+            left -= amount;
+            amount
+        });
+        assert_eq!(left, 0);
+        book_owing(&[1; 12], &amounts)
+    }
+
+    /// The packed sum of any book: the answer, and nine bytes of which so many were lent.
+    fn packed_lent(book: &Book, supplier: u64, owner: u64, length: usize) -> (u64, [u8; 9]) {
+        let mut bytes = [LENT; 9];
+        let lent = bytes.as_mut_ptr();
+        let answer = unsafe {
+            read_with!(
+                book,
+                settlement_book_packed_sum(supplier, owner, lent, length)
+            )
+        };
+        (answer, bytes)
+    }
+
+    /// The same of a book that questions 2 to 5 pass, which is all that the function for a
+    /// well-formed book asks; both give the same.
+    fn packed_into(book: &Book, supplier: u64, owner: u64, length: usize) -> (u64, [u8; 9]) {
+        let any = packed_lent(book, supplier, owner, length);
+        assert!(![2, 3, 4, 5].contains(&any.0), "question {}", any.0);
+        let mut bytes = [LENT; 9];
+        let answer = unsafe {
+            settlement_book_packed_sum_within(
+                book.numbers.as_ptr(),
+                book.numbers.len(),
+                book.element_data.as_ptr(),
+                book.element_data.len(),
+                book.lines.as_ptr(),
+                book.lines.len(),
+                supplier,
+                owner,
+                bytes.as_mut_ptr(),
+                length,
+            )
+        };
+        assert_eq!((answer, bytes), any);
+        any
+    }
+
+    fn packed(book: &Book, supplier: u64, owner: u64) -> (u64, [u8; 9]) {
+        packed_into(book, supplier, owner, PACKED_SIZE)
+    }
+
+    /// Eight bytes written, and nothing behind them.
+    fn written(half_bytes: u64) -> (u64, [u8; 9]) {
+        let mut bytes = [LENT; 9];
+        bytes[..PACKED_SIZE].copy_from_slice(&half_bytes.to_be_bytes());
+        (0, bytes)
+    }
+
+    /// Nothing written.
+    fn refused(question: u64) -> (u64, [u8; 9]) {
+        (question, [LENT; 9])
+    }
+
+    /// The half-bytes of an amount in øre: fifteen digits and a sign.
+    fn half_bytes(ore: i128) -> u64 {
+        let sign = if ore < 0 { 'd' } else { 'c' };
+        let digits = format!("{:015}{sign}", ore.abs());
+        assert_eq!(digits.len(), 16);
+        u64::from_str_radix(&digits, 16).unwrap()
+    }
+
+    /// Bytes that are read: the answer, and the amount, which was 5.
+    fn read(bytes: &[u8]) -> (u64, i64) {
+        let mut amount = 5;
+        let answer =
+            unsafe { settlement_book_read_packed(bytes.as_ptr(), bytes.len(), &mut amount) };
+        let expected = Question::none_of(answer).map(|()| amount);
+        assert_eq!(read_packed(bytes), expected);
+        (answer, amount)
+    }
+
+    /// Worked out by hand; in some no digit is like the next, so their order is seen.
+    #[test]
+    fn known_amounts_are_packed_and_read() {
+        for (ore, half_bytes) in [
+            (0, 0x0000_0000_0000_000c),
+            (1, 0x0000_0000_0000_001c),
+            (-1, 0x0000_0000_0000_001d),
+            (-7, 0x0000_0000_0000_007d),
+            (-10, 0x0000_0000_0000_010d),
+            (123_456, 0x0000_0000_0123_456c),
+            (-123_456, 0x0000_0000_0123_456d),
+            (9_876_543_210, 0x0000_0987_6543_210c),
+            (123_456_789_098_765, 0x1234_5678_9098_765c),
+            (-987_654_321_012_345, 0x9876_5432_1012_345d),
+            (100_000_000_000_000, 0x1000_0000_0000_000c),
+            (-900_000_000_000_001, 0x9000_0000_0000_001d),
+            (MOST, 0x9999_9999_9999_999c),
+            (-MOST, 0x9999_9999_9999_999d),
+        ] {
+            let book = book_owing_in_all(ore * ORE);
+            assert_eq!(packed(&book, 1, 1), written(half_bytes), "{ore}");
+            let bytes = half_bytes.to_be_bytes();
+            assert_eq!(read(&bytes), (0, ore as i64));
+        }
+        // The bytes one by one: 1,234.56 kroner.
+        let bytes = [0x00, 0x00, 0x00, 0x00, 0x01, 0x23, 0x45, 0x6c];
+        assert_eq!(
+            packed(&book_owing_in_all(123_456 * ORE), 1, 1).1[..8],
+            bytes
+        );
+        assert_eq!(read(&bytes), (0, 123_456));
+    }
+
+    #[test]
+    fn an_ore_beyond_fifteen_digits_is_question_24() {
+        for (sum, is_packed) in [
+            (MOST * ORE, true),
+            // Below half an øre more it is rounded to what fits.
+            (MOST * ORE + ORE / 2 - 1, true),
+            (MOST * ORE + ORE / 2, false),
+            ((MOST + 1) * ORE, false),
+            ((MOST + 2) * ORE, false),
+            (12 * MOST_LINE, false),
+        ] {
+            for (sum, largest) in [(sum, 0x9999_9999_9999_999c), (-sum, 0x9999_9999_9999_999d)] {
+                let book = book_owing_in_all(sum);
+                let expected = if is_packed {
+                    written(largest)
+                } else {
+                    refused(24)
+                };
+                assert_eq!(packed(&book, 1, 1), expected, "{sum}");
+                // The sums beside it are zero, and are packed.
+                assert_eq!(packed(&book, 1, 2), written(0xc));
+                assert_eq!(packed(&book, 2, 1), written(0xc));
+            }
+        }
+        // The most lines of the largest amounts.
+        for amount in [MOST_LINE, -MOST_LINE] {
+            let book = book_owing(&[1; 64], &[amount; 64]);
+            assert_eq!(packed(&book, 1, 1), refused(24));
+        }
+        // The whole sum is asked: here the first eleven lines alone would not fit.
+        let amounts = [[MOST_LINE; 11], [-MOST_LINE; 11]].concat();
+        let book = book_owing(&[1; 22], &amounts);
+        assert_eq!(packed(&book, 1, 1), written(0xc));
+    }
+
+    #[test]
+    fn halves_of_an_ore_are_rounded_away_from_zero() {
+        for (size, ore) in [
+            (0, 0),
+            (1, 0),
+            (4_000_000, 0),
+            (4_999_999, 0),
+            (5_000_000, 1),
+            (5_000_001, 1),
+            (ORE, 1),
+            (14_999_999, 1),
+            (15_000_000, 2),
+            (24_999_999, 2),
+            (25_000_000, 3),
+            (KRONE - 5_000_001, 99),
+            (KRONE - 5_000_000, 100),
+            (MOST_LINE - 5_000_001, 99_999_999_999_999),
+            (MOST_LINE - 5_000_000, 100_000_000_000_000),
+        ] {
+            for (sum, ore) in [(size, ore), (-size, -ore)] {
+                let expected = written(half_bytes(ore));
+                let book = book_owing_in_all(sum);
+                assert_eq!(packed(&book, 1, 1), expected, "{sum}");
+            }
+        }
+        // The sign is that of the rounded sum.
+        let packed = |sum| packed(&book_owing_in_all(sum), 1, 1);
+        assert_eq!(packed(-4_000_000), written(0xc));
+        assert_eq!(packed(-5_000_000), written(0x1d));
+    }
+
+    #[test]
+    fn a_sum_is_rounded_once() {
+        for (amounts, half_bytes) in [
+            (&[4_000_000, 4_000_000][..], 0x1c),
+            (&[-4_000_000, -4_000_000], 0x1d),
+            (&[5_000_000, 5_000_000], 0x1c),
+            (&[-5_000_000, -5_000_000], 0x1d),
+            (&[5_000_000, -5_000_000], 0xc),
+            (&[5_000_000, -5_000_001], 0xc),
+            (&[-5_000_000, 0, 1], 0xc),
+            (&[4_999_999, 0, 1], 0x1c),
+            (&[4_000_000; 10], 0x4c),
+            (&[-4_000_000; 10], 0x4d),
+            (&[6_000_000; 10], 0x6c),
+        ] {
+            let book = book_owing(&[1; 10], amounts);
+            let expected = written(half_bytes);
+            assert_eq!(packed(&book, 1, 1), expected, "{amounts:?}");
+        }
+    }
+
+    /// Each line has a digit of its own.
+    #[test]
+    fn only_lines_of_the_supplier_and_the_owner_are_added() {
+        let ore = [
+            1, 20, 300, 4_000, // supplier 1
+            50_000, 600_000, 7_000_000, 80_000_000,
+        ];
+        let book = book_owing(&[1, 2, 2, 1], &ore.map(|ore| ore * ORE));
+        assert_eq!(packed(&book, 1, 1), written(0x0004_001c));
+        assert_eq!(packed(&book, 1, 2), written(0x320c));
+        assert_eq!(packed(&book, 2, 1), written(0x0008_0050_000c));
+        assert_eq!(packed(&book, 2, 2), written(0x7600_000c));
+
+        // Sums that do not fit take nothing from those that do.
+        let mut owners = [2; 11];
+        owners[10] = 1;
+        let mut amounts = [[MOST_LINE; 11], [0; 11]].concat();
+        amounts[10] = 7 * ORE;
+        let book = book_owing(&owners, &amounts);
+        assert_eq!(packed(&book, 1, 2), refused(24));
+        assert_eq!(packed(&book, 1, 1), written(0x7c));
+        assert_eq!(packed(&book, 2, 2), written(0xc));
+    }
+
+    #[test]
+    fn other_lengths_than_eight_are_question_24() {
+        let book = book_owing_in_all(7 * ORE);
+        for length in [0, 1, 7, 9] {
+            assert_eq!(packed_into(&book, 1, 1, length), refused(24), "{length}");
+        }
+        assert_eq!(packed(&book, 1, 1), written(0x7c));
+        let seven = [0, 0, 0, 0, 0, 0, 0, 0x7c, 0x7c, 0x7c];
+        for length in [0, 1, 7, 9, 10] {
+            assert_eq!(read(&seven[..length]), (24, 5), "{length}");
+            let last = &seven[10 - length..];
+            assert_eq!(read(last), (24, 5), "the last {length}");
+        }
+        assert_eq!(read(&seven[..PACKED_SIZE]), (0, 7));
+    }
+
+    /// Question 6 is asked before the length and the digits, and questions 2 to 5 before
+    /// question 6.
+    #[test]
+    fn question_24_is_asked_last() {
+        let mut book = book_owing_in_all(12 * MOST_LINE);
+        let numbers = [(0, 1), (3, 1), (1, 0), (1, 3), (u64::MAX, 1), (1, u64::MAX)];
+        for length in [0, 7, 8, 9] {
+            assert_eq!(packed_into(&book, 1, 1, length), refused(24));
+            for (supplier, owner) in numbers {
+                assert_eq!(packed_into(&book, supplier, owner, length), refused(6));
+            }
+        }
+        let slips: [(u64, Slip); 4] = [
+            (5, |book| book.links[1] = 1),
+            (4, |book| book.element_data[0] = 4),
+            (3, |book| book.blocks = zeros(2)),
+            (2, |book| book.numbers[0] = 1999),
+        ];
+        // Each slip comes to those before it, whose questions are asked later.
+        for (question, slip) in slips {
+            slip(&mut book);
+            for (supplier, length) in [(1, 8), (0, 8), (1, 7), (0, 7)] {
+                let found = packed_lent(&book, supplier, 1, length);
+                assert_eq!(found, refused(question));
+            }
+        }
+    }
+
+    /// Question 5 asks the lines that are added, and they are added only where it passes.
+    #[test]
+    fn lines_out_of_bounds_are_question_5() {
+        for size in [MOST_LINE, -MOST_LINE] {
+            let book = book_owing(&[1], &[size]);
+            let expected = written(half_bytes(size / ORE));
+            assert_eq!(packed(&book, 1, 1), expected);
+            let book = book_owing(&[1], &[size + size.signum()]);
+            assert_eq!(packed_lent(&book, 1, 1, PACKED_SIZE), refused(5));
+        }
+        for billionths in [-1, KRONE as i64, i64::MIN, i64::MAX] {
+            let mut book = book_owing(&[1], &[0]);
+            book.lines[2] = billionths;
+            assert_eq!(packed_lent(&book, 1, 1, PACKED_SIZE), refused(5));
+        }
+    }
+
+    /// Sums of one digit up to fifteen, each some billionths off what it is rounded to.
+    #[test]
+    fn what_is_packed_is_read_back() {
+        for k in 1..=5_000 {
+            // Fractional parts of multiples of the golden ratio.
+            let number = (k as u64).wrapping_mul(0x9e37_79b9_7f4a_7c15) >> 1;
+            let size = i128::from(number) % 10_i128.pow(1 + k % 15);
+            let off = i128::from(number) % (ORE - 1) - (ORE / 2 - 1);
+            let ore = if k % 2 == 0 { size } else { -size };
+            let book = book_owing_in_all(ore * ORE + off);
+            let (answer, bytes) = packed(&book, 1, 1);
+            assert_eq!((answer, bytes), written(half_bytes(ore)), "{ore}, {off}");
+            assert_eq!(read(&bytes[..PACKED_SIZE]), (0, ore as i64));
+        }
+    }
+
+    /// Half-bytes with one of them another.
+    fn with_half(half_bytes: u64, place: usize, half: u64) -> [u8; PACKED_SIZE] {
+        let shift = 60 - 4 * place;
+        (half_bytes & !(0xf << shift) | half << shift).to_be_bytes()
+    }
+
+    #[test]
+    fn each_half_byte_is_read() {
+        for number in [0xc, 0x1d, 0x1234_5678_9098_765c, 0x9999_9999_9999_999d] {
+            for place in 0..15 {
+                for half in 0..16 {
+                    let bytes = with_half(number, place, half);
+                    // The half-byte counts by its place; minus zero is no number.
+                    let others = u64::from_be_bytes(with_half(number, place, 0));
+                    let digits = format!("{:x}", others >> 4).parse::<i64>().unwrap();
+                    let size = digits + half as i64 * 10_i64.pow(14 - place as u32);
+                    let is_minus = number & 0xf == 0xd;
+                    let expected = match half {
+                        10.. => (24, 5),
+                        _ if is_minus && size == 0 => (24, 5),
+                        _ if is_minus => (0, -size),
+                        _ => (0, size),
+                    };
+                    assert_eq!(read(&bytes), expected, "{bytes:02x?}");
+                }
+            }
+        }
+    }
+
+    #[test]
+    fn each_sign_is_read() {
+        for (number, size) in [(0x70, 7), (0x1234_5678_9098_7650, 123_456_789_098_765)] {
+            for sign in 0..16 {
+                let expected = match sign {
+                    0xc => (0, size),
+                    0xd => (0, -size),
+                    _ => (24, 5),
+                };
+                assert_eq!(read(&with_half(number, 15, sign)), expected, "{sign:x}");
+            }
+        }
+        // Zero has the one form.
+        for sign in 0..16 {
+            let expected = if sign == 0xc { (0, 0) } else { (24, 5) };
+            assert_eq!(read(&with_half(0, 15, sign)), expected, "{sign:x}");
         }
     }
 }

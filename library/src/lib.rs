@@ -1,11 +1,12 @@
 //! The monthly settlement book of document 01, proved in Rattle, for Rust.
 //!
 //! A [`Book`] is one grid company's month. It is opened with its counts, elements
-//! and prices, takes messages, and answers what a supplier owes for an element,
-//! which periods are recorded, and on which day a point has no holder.
+//! and prices, takes messages, and answers what a supplier owes for an element, or
+//! for all elements of an owner as a packed amount, which periods are recorded, and on
+//! which day a point has no holder.
 //!
 //! ```
-//! use settlement_book::{Book, Counts, Element, Fields, Month};
+//! use settlement_book::{Book, Counts, Element, Fields, Month, read_packed};
 //!
 //! let month = Month { year: 2024, month: 3 };
 //! let counts = Counts { points: 1, suppliers: 2, elements: 1 };
@@ -22,6 +23,10 @@
 //!     assert!(book.message(&message)?.is_empty());
 //! }
 //! assert_eq!(book.line(1, 0)?.kroner, 39);
+//! // 39.999982 kroner are 4,000 øre, the nearest.
+//! let packed = book.packed_sum(1, 1)?;
+//! assert_eq!(packed, [0, 0, 0, 0, 0, 0x04, 0x00, 0x0c]);
+//! assert_eq!(read_packed(&packed)?, 4_000);
 //! # Ok::<(), settlement_book::Question>(())
 //! ```
 //!
@@ -37,7 +42,7 @@ mod book;
 mod file;
 mod question;
 
-pub use book::Book;
+pub use book::{Book, PACKED_SIZE, read_packed};
 pub use question::Question;
 pub use settlement_file::{Counts, Element, Month, RECORD_SIZE};
 

@@ -1,4 +1,5 @@
-//! The questions of document 01 that an entry point can answer with no.
+//! The questions of document 01 and of request 11 that an entry point can answer with
+//! no.
 
 /// The first question that says no. Question 1 is the file's.
 #[derive(Clone, Copy, Debug, PartialEq, Eq)]
@@ -39,11 +40,14 @@ pub enum Question {
     TableFull = 17,
     /// The list holds every record.
     ListFull = 18,
+    /// The bytes are eight; a sum to be packed has at most fifteen digits, and bytes that
+    /// are read are a packed amount.
+    NotPacked = 24,
 }
 
 use Question::*;
 
-const ALL: [Question; 18] = [
+const ALL: [Question; 19] = [
     BrokenField,
     OutOfLimits,
     WrongLength,
@@ -62,10 +66,11 @@ const ALL: [Question; 18] = [
     OutsideMonth,
     TableFull,
     ListFull,
+    NotPacked,
 ];
 
 impl Question {
-    /// Document 01's number.
+    /// Its number in document 01 or request 11.
     pub fn number(self) -> u64 {
         self as u64
     }
@@ -75,8 +80,8 @@ impl Question {
         if number == 0 {
             return Ok(());
         }
-        // The exported functions promise a number of the list.
-        Err(ALL[number as usize - 1])
+        let named = ALL.into_iter().find(|question| question.number() == number);
+        Err(named.expect("the exported functions promise a number of the list"))
     }
 }
 
@@ -94,9 +99,10 @@ mod tests {
 
     #[test]
     fn numbers_are_in_order() {
-        for (place, question) in ALL.iter().enumerate() {
-            assert_eq!(question.number(), place as u64 + 1);
-            assert_eq!(Question::none_of(question.number()), Err(*question));
+        let numbers = (1..=18).chain([24]);
+        assert!(ALL.into_iter().map(Question::number).eq(numbers));
+        for question in ALL {
+            assert_eq!(Question::none_of(question.number()), Err(question));
         }
         assert_eq!(Question::none_of(0), Ok(()));
     }

@@ -2,69 +2,17 @@
 //! the earliest day without a holder, how many periods the query for them reads, and its
 //! two forms of each call against each other.
 
+mod support;
+
 use std::collections::BTreeMap;
 
-use settlement_book::{Book, Counts, Element, Fields, Line, Month, Period, Question, Record};
-
-const MARCH: Month = Month {
-    year: 2024,
-    month: 3,
+use settlement_book::{Book, Counts, Fields, Line, Month, Period, Question, Record};
+use support::{
+    CONNECTED, FIRST, MARCH, Random, counts, element, holder, link, listing, prices, state, tell,
+    told,
 };
-const FIRST: u64 = 8826;
+
 const LAST: u64 = 8856;
-
-fn counts(points: u64, suppliers: u64, elements: u64) -> Counts {
-    Counts {
-        points,
-        suppliers,
-        elements,
-    }
-}
-
-fn element(kind: u8, owner: u8, marks: u8) -> Element {
-    Element { kind, owner, marks }
-}
-
-fn prices(each: &[i64]) -> Vec<i64> {
-    let mut prices = vec![0; each.len() * 24];
-    for (place, price) in each.iter().enumerate() {
-        prices[place * 24] = *price;
-    }
-    prices
-}
-
-/// A message that is received on the first day of the month.
-fn told(kind: u64, role: u64, element: u64, day: u64, hour: u64, value: u64) -> Fields {
-    Fields {
-        kind,
-        role,
-        received: FIRST,
-        element,
-        day,
-        hour,
-        value,
-        ..Fields::default()
-    }
-}
-
-/// The listing's book before its first round.
-fn listing() -> Book {
-    let elements = [element(1, 1, 0), element(3, 1, 0)];
-    let prices = prices(&[20_000_000, 500_000]);
-    let mut book = Book::open(MARCH, counts(1, 2, 2), &elements, &prices).unwrap();
-    for message in [
-        told(5, 1, 0, FIRST, 0, 2),
-        told(4, 2, 0, FIRST, 0, 1),
-        told(4, 2, 0, 8841, 0, 2),
-        told(1, 1, 0, FIRST, 0, 2),
-        told(1, 1, 1, FIRST, 0, 1),
-        told(6, 1, 0, 8840, 23, 1000),
-        told(6, 1, 0, 8841, 0, 3000),
-    ] {
-        assert_eq!(book.message(&message), Ok(&[][..]));
-    }
-    book
-}
 
 /// A record of a line: kind, supplier and element, then quantity, kroner and billionths
 /// of the difference and of the balance.
@@ -272,27 +220,10 @@ fn queries_answer_or_name_the_question() {
 
 const NOBODY: u64 = 0;
 const NEW: u64 = 1;
-const CONNECTED: u64 = 2;
 const DISCONNECTED: u64 = 3;
 const CLOSED: u64 = 4;
 const SUBSCRIPTION: u64 = 0;
 const FEE: u64 = 1;
-
-fn link(element: u64, day: u64) -> Fields {
-    told(1, 1, element, day, 0, 1)
-}
-
-fn holder(day: u64, supplier: u64) -> Fields {
-    told(4, 2, 0, day, 0, supplier)
-}
-
-fn state(day: u64, state: u64) -> Fields {
-    told(5, 1, 0, day, 0, state)
-}
-
-fn tell(book: &mut Book, message: Fields) {
-    assert_eq!(book.message(&message), Ok(&[][..]), "{message:?}");
-}
 
 /// A month with two points, two suppliers, a subscription and a fee.
 fn open(month: Month) -> Book {
@@ -490,48 +421,6 @@ fn every_month_opens() {
     }
 }
 
-/// The splitmix64 sequence.
-struct Random(u64);
-
-impl Random {
-    fn below(&mut self, limit: u64) -> u64 {
-        self.0 = self.0.wrapping_add(0x9e37_79b9_7f4a_7c15);
-        let mut z = self.0;
-        z = (z ^ (z >> 30)).wrapping_mul(0xbf58_476d_1ce4_e5b9);
-        z = (z ^ (z >> 27)).wrapping_mul(0x94d0_49bb_1331_11eb);
-        (z ^ (z >> 31)) % limit
-    }
-
-    /// Mostly a message that means something, now and then any numbers.
-    fn message(&mut self) -> Fields {
-        let kind = 1 + self.below(8);
-        let uses = |kinds: &[u64], number: u64| {
-            if kinds.contains(&kind) { number } else { 0 }
-        };
-        let mut numbers = [
-            kind,
-            if [4, 8].contains(&kind) { 2 } else { 1 },
-            0,
-            FIRST,
-            uses(&[1, 2, 3, 4, 5, 6, 7], self.below(4)),
-            uses(&[1, 2, 3], self.below(4)),
-            uses(&[1, 2, 3, 4, 5, 6], FIRST - 10 + self.below(50)),
-            uses(&[6], self.below(24)),
-            uses(&[1, 3], 1 + self.below(2))
-                + uses(&[4], self.below(4))
-                + uses(&[5], 1 + self.below(4))
-                + uses(&[6], self.below(5000))
-                + uses(&[7], self.below(2)),
-        ];
-        if self.below(10) == 0 {
-            let place = self.below(9) as usize;
-            let bits = self.below(64);
-            numbers[place] = self.below(1 << bits);
-        }
-        Fields::from(numbers)
-    }
-}
-
 #[test]
 fn both_forms_of_each_call_agree() {
     let elements = [
@@ -558,6 +447,8 @@ fn both_forms_of_each_call_agree() {
         assert_eq!(book.line(one, two), checked.line_checked(one, two));
         let day = book.day_without_holder(one);
         assert_eq!(day, checked.day_without_holder_checked(one));
+        let packed = book.packed_sum(one, two);
+        assert_eq!(packed, checked.packed_sum_checked(one, two));
         assert_eq!(periods(&book, one, two), periods(&checked, one, two));
     }
     assert!(accepted > 5_000, "{accepted} accepted");

@@ -4,3 +4,4 @@ pub mod Linear
 pub mod Sums
 pub mod Order
 pub mod Division
+pub mod Nearest

@@ -1,5 +1,4 @@
 -- Laws of lines with changes, of what a round sends, and of the list of records; and what functions that are walked by hand share.
-pub mod ListFronts
 pub mod AmountLaws
 pub mod Bounds
 pub mod Fronts

@@ -3,3 +3,4 @@ pub mod Asks
 pub mod Lacks
 pub mod PairSearch
 pub mod Answered
+pub mod Owned

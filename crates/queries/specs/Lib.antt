@@ -2,3 +2,4 @@
 pub mod PairSearch
 pub mod Promises
 pub mod Days
+pub mod Owned

@@ -17,6 +17,9 @@ ghost use Rattle.tables.specs.Order.{LinkRows, PairFits};
 ghost use Rattle.queries.specs.Promises.{LineAnswered, PeriodsAt};
 ghost use Rattle.queries.specs.Days.{PointAsked};
 ghost use Rattle.queries.specs.PairSearch.{PairFound};
+
+pub mod sums;
+
 use facts::holder_on;
 use facts::is_counting;
 use facts::month_days;

@@ -5,7 +5,8 @@ use lib.IntN.{ℤ, pos, negsuc, natAbs, _*ℤ_}
 use lib.Dec.{eqb}
 use native.Mathlib.Nat.{mul-le-mul, mul-le-mul-right, div-le-of-le-mul, le-trans}
 use native.Mathlib.Omega.{arith}
-use Rattle.integers.proofs.Integers.{mul-abs, neg-abs}
+use Rattle.integers.proofs.Integers.{mul-abs}
+use Rattle.integers.proofs.Nearest.{nearest-abs}
 use Rattle.integers.proofs.Sums.{sum-abs}
 use Rattle.calendar.specs.Gregorian.{longestMonth}
 use Rattle.rules.specs.Sizes.{hourPlaces, millionth, mostEnergy, mostPoints, mostPrice, mostQuantity, mostTariffPrice}
@@ -33,9 +34,7 @@ half-up : (m n : ℕ) → 1 ≤ n → (2 * m + n) / (2 * n) ≤ m + 1
 half-up m n h = div-le-of-le-mul (2 * n) (omega (arith, mul-le-mul-right m h))
 
 day-price : (x : ℤ) (n : ℕ) → 1 ≤ n → natAbs (dayPrice x n) ≤ natAbs x + 1
-unfolding dayPrice
-day-price (pos m) n h = half-up m n h
-day-price (negsuc m) n h = rw neg-abs (half-up (suc m) n h)
+day-price x n h = rw nearest-abs (half-up (natAbs x) n h)
 
 -- a product of a count and a price
 count-price : (q : ℕ) (x : ℤ) (a b : ℕ) → q ≤ a → natAbs x ≤ b → natAbs (pos q *ℤ x) ≤ a * b

@@ -2,17 +2,20 @@
 -- lines are what the rules give from them, the records add up to what was sent, and the last record of a line carries it. The claim's parts
 -- follow from that.
 use mathlib.Core.Path.{_≡_, refl, sym, ap, ap₂, _∙_, subst}
-use Prim.Native.Nat.{ℕ, suc, _+_, _≤_, _<_}
+use Prim.Native.Nat.{ℕ, suc, _+_, _*_, _^_, _≤_, _<_}
 use mathlib.Core.Bool.{Bool, true, false, _&&_, false≢true}
 use mathlib.Core.List.{List, [], _∷_, _++_, append-nil, append-assoc, List·Memᴰ, List·Memᴰ·not-nil}
 use mathlib.Core.Option.{Option, none, some}
 use lib.IntN.{natAbs, +ℤ-idr}
 use lib.ListN.{length}
+use lib.Dec.{eqb}
+use borrow.Author.Tests.{lt-ltb}
 use native.Mathlib.Nat.{le-trans}
 use native.Mathlib.Omega.{arith}
 use Rattle.integers.proofs.Linear.{back-again, less-itself}
 use Rattle.integers.specs.Sums.{sumTo}
-use Rattle.integers.proofs.Sums.{sum-cong}
+use Rattle.integers.proofs.Sums.{sum-cong, sum-abs}
+use Rattle.integers.proofs.Nearest.{nearest-abs}
 use Rattle.rules.specs.Sizes.{holderSize}
 use Rattle.rules.specs.declared.Fields.{Fields}
 use Rattle.rules.specs.declared.Body.{Body}
@@ -20,7 +23,7 @@ use Rattle.rules.specs.declared.Body.the-variants.{Link, Stop, Quantity,
 use Rattle.rules.specs.declared.Message.{Message}
 use Rattle.rules.specs.declared.Record.{Record}
 use Rattle.rules.specs.Lines.{Measure, owedByHolder, line}
-use Rattle.rules.specs.World.{Opening, Tables, World, rowsOf, monthFirst, monthDays, termsOf, factsOf, stored, InBook}
+use Rattle.rules.specs.World.{Opening, Tables, World, rowsOf, monthFirst, monthDays, termsOf, factsOf, stored, ownerOf, InBook}
 use Rattle.rules.specs.WellFormed.{withinLimits, rowsFit, lineLimit, elementRight, valueRight, earlier, linesRight, holdersRight}
 use Rattle.rules.specs.WellFormed.{tablesRight, question2, question4, question5}
 use Rattle.rules.specs.Messages.{understood, bodyIn}
@@ -29,6 +32,7 @@ use Rattle.rules.specs.Effects.{told, movedLine, movedLines, isRound, se
 use Rattle.rules.specs.Effects.{linesAfter, posted, question17, answer, accepted, stepBy, step}
 use Rattle.rules.specs.Opening.{openingAnswer, opened}
 use Rattle.rules.specs.Queries.{lineQuery, lineNamed, lineGiven, ownLine, named}
+use Rattle.rules.specs.Packed.{ownedSum, ledgerSum, ore, ledgerAmount, digitCount, fits}
 use Rattle.rules.specs.Fresh.{Fresh, heard, heardBody, hear, freshFacts}
 use Rattle.rules.specs.Claim.{Event, History, advance, advanceAll, begin, reached, total, balanceOf, lastRecord, LastBalance}
 use Rattle.rules.specs.Claim.{LastStands, Holds, reachedLimit, Kept, Demand3}
@@ -250,6 +254,30 @@ module _ (h : History) (o : Opening) (i : Inv o h) where
       (bounded (h .world .opening) e (element-of (h .world) (i .whole) e (b .element)) (limits-of (h .world) (i .whole))
       (h .world .position .tables) (tables-of (h .world) (i .whole))) m s)
 
+  -- what the ledger is sent: the sum of fresh settlement's lines, and no more than 64 times what a line is at most
+  ledger-fresh : (s owner : ℕ) → 1 ≤ s → s ≤ h .world .opening .suppliers
+      → ledgerSum (h .world) s owner
+      ≡ ownedSum (h .world .opening) owner (λ e. line (termsOf (h .world .opening)) (freshFacts (h .fresh)) Measure.amount s e)
+  unfolding ledgerSum ownedSum
+  ledger-fresh s owner a b = sum-cong _ _ (h .world .opening .elements)
+      (λ e l. rw (named-fresh Measure.amount s e (record { someone = a; supplier = b; element = l })))
+
+  ledger-small : (s owner : ℕ) → 1 ≤ s → s ≤ h .world .opening .suppliers
+      → natAbs (ledgerSum (h .world) s owner) ≤ h .world .opening .elements * reachedLimit Measure.amount
+  unfolding ledgerSum ownedSum
+  ledger-small s owner a b = sum-abs _ (reachedLimit Measure.amount) (h .world .opening .elements)
+      (λ e l. cases (eqb (ownerOf (h .world .opening) e) owner)
+      (λ t. rw t (small-of Measure.amount s e (record { someone = a; supplier = b; element = l })))
+      (λ t. rw t (omega arith)))
+
+  ledger-fits : (s owner : ℕ) → 1 ≤ s → s ≤ h .world .opening .suppliers → fits (ledgerAmount (h .world) s owner) ≡ true
+  unfolding fits reachedLimit
+  ledger-fits s owner a b =
+      let k = limits-of (h .world) (i .whole) .elements in
+      let n = ledger-small s owner a b in
+      let e = nearest-abs (ledgerSum (h .world) s owner) ore in
+      lt-ltb (natAbs (ledgerAmount (h .world) s owner)) (10 ^ digitCount) (omega arith)
+
   -- lines never leave their bounds, so 17 is said for the rows' sake
   lines-fit : (b : Body) → Ready (h .world .opening) (h .world .position .tables) b
       → linesRight (h .world .opening) (linesAfter (h .world) b) ≡ true
@@ -428,6 +456,10 @@ module _ (w : World) (a : openingAnswer w ≡ 0) (vs : List Event) where
         → answer (x .world) (v .fields) (length (v .lent)) ≡ 17 → rowsFit (tablesAfter (x .world) (b .body)) ≡ false)
         (i .opening) (full-of x (w .opening) i v)
 
+-- the opening stays
+pub reached-opening : (w : World) → openingAnswer w ≡ 0 → (vs : List Event) → reached w vs .world .opening ≡ w .opening
+reached-opening w a vs = i w a vs .opening
+
 -- a message of the list is the next after those before it
 module _ (w : World) (a : openingAnswer w ≡ 0) (vs : List Event) where
   pub kept : Kept w vs
@@ -451,6 +483,11 @@ module _ (w : World) (a : openingAnswer w ≡ 0) (vs : List Event) where
         small = subst (λ o. (m : Measure) (s e : ℕ) → InBook o s e → natAbs (named m (lineQuery (h .world) s e)) ≤ reachedLimit m)
             (j .opening) (small-of h (w .opening) j);
         full = λ y. full-next w a (y .before) (y .message);
+        ledgerFits = subst (λ (o : Opening). (s owner : ℕ) → 1 ≤ s → s ≤ o .suppliers → fits (ledgerAmount (h .world) s owner) ≡ true)
+            (j .opening) (ledger-fits h (w .opening) j);
+        ledgerFresh = subst (λ (o : Opening). (s owner : ℕ) → 1 ≤ s → s ≤ o .suppliers → ledgerSum (h .world) s owner
+            ≡ ownedSum o owner (λ e. line (termsOf o) (freshFacts (h .fresh)) Measure.amount s e))
+            (j .opening) (ledger-fresh h (w .opening) j);
       }
 
 pub demand3 : Demand3

@@ -1,6 +1,7 @@
 -- The laws of the definitions and the proof of demand 3, each file above what it cites.
 pub mod Tests
 pub mod Ranges
+pub mod ListFronts
 pub mod Words
 pub mod Clauses
 pub mod Values
@@ -21,6 +22,7 @@ pub mod Kept
 pub mod FreshLaws
 pub mod LineQuery
 pub mod DayQuery
+pub mod Packed
 pub mod Small
 pub mod Begin
 pub mod Demand3

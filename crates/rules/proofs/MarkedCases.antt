@@ -10,6 +10,7 @@ use lib.Dec.{T}
 use native.Mathlib.Omega.{arith}
 use Rattle.integers.proofs.Sums.{sum-zero}
 use Rattle.calendar.specs.Gregorian.{isLeap, hasThirty, daysOfMonth, firstOf, firstDay}
+use Rattle.integers.specs.Division.{nearest}
 use Rattle.integers.specs.Sums.{sumTo}
 use Rattle.rules.specs.declared.Body.{Body}
 use Rattle.rules.specs.Sizes.{holderSize, stateSize}
@@ -17,7 +18,7 @@ use Rattle.rules.specs.Basics.{within, allTo, anyTo, allIn, chained, lis
 use Rattle.rules.specs.Rows.{packPeriod, periodPoint, periodElement, periodFirst, periodEnd, periodQuantity, ofPair, covers}
 use Rattle.rules.specs.Rows.{quantityOn, startsOn, nextStart, insertRow, stopRows, splitRows, packValue, valuePoint, valueFirst}
 use Rattle.rules.specs.Rows.{valueOf, recordedOn, recordRow}
-use Rattle.rules.specs.Lines.{Measure, dayPrice, line}
+use Rattle.rules.specs.Lines.{Measure, line}
 use Rattle.rules.specs.World.{Opening, Tables, connected}
 use Rattle.rules.specs.World.{rowsOf, tableOf, monthFirst, monthDays, kindOf, ownerOf, marksOf, marked, isTariff}
 use Rattle.rules.specs.World.{termsOf, holderOn, stateOn, linkedOn, factsOf, lineCount, lineAt}
@@ -129,5 +130,5 @@ sends = record {
 }
 
 pub cases-hold : T (allIn holds cases)
-unfolding isLeap hasThirty daysOfMonth firstOf firstDay sumTo dayPrice allIn naturals cases sameNumber sameNumbers holds
+unfolding isLeap hasThirty daysOfMonth firstOf firstDay sumTo nearest allIn naturals cases sameNumber sameNumbers holds
 cases-hold = rw (sends .again, sends .before, sends .first, sends .second, sends .leaves, sends .behind, sends .splits, sends .unlinked) tt

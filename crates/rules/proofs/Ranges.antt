@@ -1,5 +1,5 @@
 -- Laws of tests over ranges and lists, of lists made by a function, and of lists of one value.
-use Prim.Native.Nat.{ℕ, zero, suc, _≤_, _<_}
+use Prim.Native.Nat.{ℕ, zero, suc, _+_, _≤_, _<_}
 use mathlib.Core.Path.{_≡_, refl, ap, ap₂, _∙_}
 use mathlib.Core.Bool.{Bool, true, false, and-false}
 use mathlib.Core.List.{List, [], _∷_}
@@ -45,6 +45,10 @@ all-at f (suc n) h i k =
     cases (eqb i n)
     (λ t. rw (eqb-true i n t) (m .1))
     (λ t. all-at f n (m .0) i (omega (arith, tests)))
+
+-- one more number passed
+pub one-more : (f : ℕ → Bool) (i : ℕ) → ((k : ℕ) → k < i → f k ≡ true) → f i ≡ true → (k : ℕ) → k < i + 1 → f k ≡ true
+one-more f i h t k l = cases (eqb k i) (λ e. rw (eqb-true k i e) t) (λ e. h k (omega (arith, tests)))
 
 -- ---- every entry of a list
 

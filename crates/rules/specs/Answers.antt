@@ -5,7 +5,7 @@ use Rattle.rules.specs.declared.Answer.{Answer}
 use Rattle.rules.specs.declared.Answer.the-variants.{Accepted, BrokenField, OutOfLimits, WrongLength, WrongElement, IllFormed}
 use Rattle.rules.specs.declared.Answer.the-variants.{OutOfRange, UnknownPoint, UnknownElement, NotPermitted, OutOfTime}
 use Rattle.rules.specs.declared.Answer.the-variants.{NotExisting, Closed, AlreadyLinked, NothingToStop, NoSuchQuantity}
-use Rattle.rules.specs.declared.Answer.the-variants.{OutsideMonth, TableFull, ListFull}
+use Rattle.rules.specs.declared.Answer.the-variants.{OutsideMonth, TableFull, ListFull, NotPacked}
 use Rattle.rules.specs.declared.LineAnswer.{LineAnswer}
 use Rattle.rules.specs.declared.DayAnswer.{DayAnswer}
 use Rattle.rules.specs.Queries.{LineResult, lineRefused, DayResult}
@@ -31,6 +31,7 @@ numberOf NoSuchQuantity = 15
 numberOf OutsideMonth = 16
 numberOf TableFull = 17
 numberOf ListFull = 18
+numberOf NotPacked = 24
 
 -- a line query's number and values
 abbrev pub lineResult : LineAnswer → LineResult

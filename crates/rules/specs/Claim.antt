@@ -1,7 +1,7 @@
 -- Demand 3, as one claim about every opening and every list of messages.
 use mathlib.Core.Path.{_≡_}
 use Prim.Native.Nat.{ℕ, suc, _+_, _≤_, _<_}
-use mathlib.Core.Bool.{Bool, false, _&&_, cond}
+use mathlib.Core.Bool.{Bool, true, false, _&&_, cond}
 use mathlib.Core.List.{List, [], _∷_, _++_, List·Memᴰ}
 use mathlib.Core.Option.{Option, none, some}
 use lib.IntN.{ℤ, pos, natAbs, _+ℤ_}
@@ -11,7 +11,7 @@ use Rattle.integers.specs.Sums.{sumTo}
 use Rattle.rules.specs.declared.Fields.{Fields}
 use Rattle.rules.specs.declared.Message.{Message}
 use Rattle.rules.specs.declared.Record.{Record}
-use Rattle.rules.specs.Lines.{Measure, owedByHolder}
+use Rattle.rules.specs.Lines.{Measure, line, owedByHolder}
 use Rattle.rules.specs.World.{Opening, World, monthFirst, monthDays, termsOf, amountOf, InBook}
 use Rattle.rules.specs.WellFormed.{rowsFit}
 use Rattle.rules.specs.Whole.{Whole}
@@ -19,6 +19,7 @@ use Rattle.rules.specs.Messages.{understood}
 use Rattle.rules.specs.Effects.{tablesAfter, answer, step, recordsOf}
 use Rattle.rules.specs.Opening.{openingAnswer, opened}
 use Rattle.rules.specs.Queries.{LineResult, lineQuery, lineNamed, lineGiven, ownLine, named}
+use Rattle.rules.specs.Packed.{ownedSum, ledgerSum, ledgerAmount, fits}
 use Rattle.rules.specs.Fresh.{Fresh, nothing, hear, freshFacts}
 
 -- a message as it came, and the list of records that was lent with it
@@ -152,6 +153,12 @@ pub record Kept (w : World) (vs : List Event) : Type 0 where
   pub full : (x : Split vs) (b : Message) → understood (w .opening .suppliers) (x .message .fields) ≡ some b
       → answer (reached w (x .before) .world) (x .message .fields) (length (x .message .lent)) ≡ 17
       → rowsFit (tablesAfter (reached w (x .before) .world) (b .body)) ≡ false
+  -- request 11: "Every sum of a book reached from opening fits"
+  pub ledgerFits : (s owner : ℕ) → 1 ≤ s → s ≤ w .opening .suppliers → fits (ledgerAmount (reached w vs .world) s owner) ≡ true
+  -- and it is that of fresh settlement's lines
+  pub ledgerFresh : (s owner : ℕ) → 1 ≤ s → s ≤ w .opening .suppliers
+      → ledgerSum (reached w vs .world) s owner
+      ≡ ownedSum (w .opening) owner (λ e. line (termsOf (w .opening)) (freshFacts (reached w vs .fresh)) Measure.amount s e)
 
 -- demand 3
 abbrev pub Demand3 : Type 0

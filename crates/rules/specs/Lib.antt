@@ -1,4 +1,4 @@
--- The definitions of document 01, in its order: what a reader must believe.
+-- The definitions of document 01, in its order, and of request 11: what a reader must believe.
 pub mod Sizes
 pub mod Basics
 pub mod Rows
@@ -14,6 +14,7 @@ pub mod Ready
 pub mod Effects
 pub mod Opening
 pub mod Queries
+pub mod Packed
 pub mod Answers
 pub mod Fresh
 pub mod Claim

@@ -61,6 +61,26 @@ pub const GRID_DAYS_BACK: u64 = 90;
 
 pub const SUPPLIER_DAYS_BACK: u64 = 21;
 
+// ---- amounts for the ledger
+
+// The billionths of an øre, and the øre of a krone.
+pub const ORE: u64 = 10000000;
+
+pub const KRONE: i64 = 100;
+
+// Bytes a packed number.
+pub const PACKED_SIZE: usize = 8;
+
+// Its digits, and the largest number of so many.
+pub const DIGITS: u64 = 15;
+
+pub const MOST_PACKED: u64 = 999999999999999;
+
+// The half-bytes C and D, for zero and above and for below.
+pub const SIGN_ABOVE: u64 = 12;
+
+pub const SIGN_BELOW: u64 = 13;
+
 // ---- elements: kinds, owners, marks
 
 pub const SUBSCRIPTION: u64 = 1;
@@ -222,7 +242,7 @@ pub struct Record {
     pub balance: Line,
 }
 
-// Accepted, or the question of document 01 that says no.
+// Accepted, or the question that says no: 1 to 18 are document 01's, 24 came with request 11.
 pub enum Answer {
     Accepted,
     BrokenField,
@@ -243,6 +263,7 @@ pub enum Answer {
     OutsideMonth,
     TableFull,
     ListFull,
+    NotPacked,
 }
 
 // What the line query answers.

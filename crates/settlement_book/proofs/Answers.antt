@@ -8,21 +8,25 @@ use mathlib.Core.List.{List}
 use mathlib.Core.Option.{none, some}
 use lib.Dec.{eqb, ltb}
 use lib.IntN.{ℤ}
+use lib.ListN.{length}
 use borrow.Author.Tests.{eq-eqb, ne-eqb, eqb-true, lt-ltb}
 use Rattle.calendar.specs.Gregorian.{InRange}
-use Rattle.rules.specs.Basics.{when}
+use Rattle.rules.specs.Basics.{when, within}
 use Rattle.rules.specs.declared.Answer.{Answer}
 use Rattle.rules.specs.declared.Book.{Book}
 use Rattle.rules.specs.declared.Fields.{Fields}
 use Rattle.rules.specs.declared.LineAnswer.{LineAnswer}
-use Rattle.rules.specs.Lines.{Measure}
-use Rattle.rules.specs.World.{World, bookOf, stored}
+use Rattle.rules.specs.Lines.{Measure, line}
+use Rattle.rules.specs.World.{World, bookOf, stored, termsOf, gridCompany, energinet}
 use Rattle.rules.specs.WellFormed.{withinLimits, question2}
 use Rattle.rules.specs.Opening.{openingAnswer, opened, afterOpening}
-use Rattle.rules.specs.Effects.{askBook, answer, accepted, stepBy, step}
+use Rattle.rules.specs.Effects.{ask, askBook, answer, accepted, stepBy, step}
 use Rattle.rules.specs.Lent.{Lists, worldIn}
 use Rattle.rules.specs.Queries.{LineResult, lineNumber, lineQuery, lineNamed, lineRefused, periodsNumber, dayNumber}
 use Rattle.rules.specs.Queries.{DayResult, dayQuery, dayResultNumber}
+use Rattle.rules.specs.Packed.{ownedSum, inOre, packedSize, packed, isPacked, packedAmount, readPacked, sumNumber, sumWritten}
+use Rattle.rules.specs.Fresh.{freshFacts}
+use Rattle.rules.specs.Claim.{Event, reached}
 use Rattle.rules.specs.Answers.{numberOf, lineResult}
 use Rattle.rules.proofs.Tests.{cases, both}
 use Rattle.rules.specs.Whole.{Whole}
@@ -31,7 +35,9 @@ use Rattle.rules.proofs.LineQuery.{query-stored}
 use Rattle.rules.proofs.DayQuery.{day-number, day-answered, day-below}
 use Rattle.rules.proofs.Begin.{passed, begin-whole}
 use Rattle.rules.proofs.Parts.{limits}
-use Rattle.rules.proofs.BookLaws.{book-refused}
+use Rattle.rules.proofs.BookLaws.{book-refused, whole-asked}
+use Rattle.rules.proofs.Ranges.{within-low, within-high}
+use Rattle.rules.proofs.Demand3.{demand3, reached-opening}
 use Rattle.recording.specs.Opened.{freshBook, cleared}
 use Rattle.recording.proofs.ClearLaws.{opened-cleared}
 use Rattle.queries.specs.Promises.{LineAnswered}
@@ -40,7 +46,7 @@ use Rattle.queries.proofs.Answered.{line-refused, periods-refused}
 use Rattle.settlement.specs.declared.Reply.{Reply}
 use Rattle.settlement.specs.Replies.{roomIn, Replied}
 use Rattle.settlement_book.specs.Numbers.{bookIn, numbersIn, lineNumbers, lineAfter, InKrone, noDay, dayAfter}
-use Rattle.settlement_book.specs.Promises.{OpensIn, RepliesIn, LineIn, PeriodsIn, DayIn}
+use Rattle.settlement_book.specs.Promises.{OpensIn, RepliesIn, LineIn, PeriodsIn, DayIn, PackedIn, ReadIn}
 
 -- a test that is false of a number that is 0
 not-zero : (n : ℕ) → false ≡ eqb n 0 → n ≢ 0
@@ -235,3 +241,48 @@ module _ {b : Book} {f : Fields} (o after : Lists) (r : Reply) (lent out : List 
 pub limited-month : (w : World) → openingAnswer w ≡ 0 → InRange (w .opening .year) (w .opening .month)
 unfolding question2
 limited-month w h = limits (w .opening) (both (withinLimits (w .opening)) _ (passed w h .limited) .0) .month
+
+-- ---- amounts for the ledger
+
+-- of a book reached from an opening, with eight bytes: the sum fits, and is fresh settlement's
+module _ (w : World) (s owner r : ℕ) (lent out : List ℕ) (h : r ≡ sumNumber w s owner (length lent)) (k : out ≡ sumWritten w s owner lent)
+    (w₀ : World) (vs : List Event) (a : openingAnswer w₀ ≡ 0) (i : w ≡ reached w₀ vs .world)
+    (b : within 1 (w₀ .opening .suppliers) s ≡ true) (c : within gridCompany energinet owner ≡ true) (l : length lent ≡ packedSize) where
+  sum-number : sumNumber (reached w₀ vs .world) s owner (length lent) ≡ 0
+  unfolding sumNumber ask
+  sum-number =
+      let d = demand3 w₀ a vs in
+      let f = d .ledgerFits s owner (within-low 1 _ s b) (within-high 1 _ s b) in
+      rw (reached-opening w₀ a vs, b, c, l, f) (whole-asked (reached w₀ vs .world) (d .whole) 0)
+
+  sum-packed : out ≡ packed (inOre (ownedSum (w₀ .opening) owner
+      (λ e. line (termsOf (w₀ .opening)) (freshFacts (reached w₀ vs .fresh)) Measure.amount s e)))
+  unfolding sumWritten
+  sum-packed = k ∙ rw (i, sum-number, demand3 w₀ a vs .ledgerFresh s owner (within-low 1 _ s b) (within-high 1 _ s b))
+
+pub packed-in : (w : World) (s owner r : ℕ) (lent out : List ℕ) → r ≡ sumNumber w s owner (length lent) → out ≡ sumWritten w s owner lent
+    → PackedIn w s owner r lent out
+packed-in w s owner r lent out h k = record {
+  number = h;
+  bytes = k;
+  settled = λ w₀ vs a i b c l. (
+    h ∙ rw i (sum-number w s owner r lent out h k w₀ vs a i b c l),
+    sum-packed w s owner r lent out h k w₀ vs a i b c l,
+  );
+}
+
+-- of a book that is not well formed
+pub packed-no-book : (w : World) (s owner r : ℕ) → r ≡ askBook w 0 → r ≢ 0 → (lent : List ℕ) → PackedIn w s owner r lent lent
+unfolding sumNumber sumWritten
+packed-no-book w s owner r h z lent =
+    let k : r ≡ sumNumber w s owner (length lent) = h ∙ sym (book-refused w (λ x. z (h ∙ x)) _) in
+    packed-in w s owner r lent lent k (rw (ne-eqb (sumNumber w s owner (length lent)) 0 (λ x. z (k ∙ x))))
+
+-- bytes that are a packed number, and others
+pub read-in : (bs : List ℕ) → isPacked bs ≡ true → (r : ℕ) → r ≡ 0 → (lent out : ℤ) → out ≡ packedAmount bs → ReadIn bs r lent out
+unfolding readPacked when
+read-in bs h r e lent out k = record { number = rw h e; amount = rw h k }
+
+pub read-none : (bs : List ℕ) → isPacked bs ≡ false → (r : ℕ) → r ≡ 24 → (lent : ℤ) → ReadIn bs r lent lent
+unfolding readPacked when
+read-none bs h r e lent = record { number = rw h e; amount = rw h }

@@ -2,7 +2,7 @@
 use Prim.Native.Nat.{ℕ, _<_}
 use mathlib.Core.Path.{_≡_}
 use mathlib.Core.List.{List, [], _∷_}
-use mathlib.Core.Option.{none, some}
+use mathlib.Core.Option.{Option, none, some}
 use lib.IntN.{ℤ, pos}
 use lib.ListN.{length, getD}
 use Rattle.rules.specs.declared.Book.{Book}
@@ -96,3 +96,10 @@ abbrev pub dayAfter : DayResult → (lent : ℕ) → ℕ
 dayAfter (DayResult.answered (some d)) lent = d
 dayAfter (DayResult.answered none) lent = noDay
 dayAfter (DayResult.refused number) lent = lent
+
+-- ---- an amount that is read from packed decimal
+
+-- a lent amount afterwards: a refusal leaves it
+abbrev pub amountAfter : (amount : Option ℤ) → (lent : ℤ) → ℤ
+amountAfter none lent = lent
+amountAfter (some a) lent = a

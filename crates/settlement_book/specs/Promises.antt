@@ -2,22 +2,25 @@
 use Prim.Native.Nat.{ℕ}
 use mathlib.Core.Path.{_≡_}
 use mathlib.Core.Logic.{_≢_}
-use mathlib.Core.Bool.{cond}
+use mathlib.Core.Bool.{true, cond}
 use mathlib.Core.List.{List}
 use lib.IntN.{ℤ}
 use lib.ListN.{length}
 use lib.Dec.{eqb}
 use Rattle.rules.specs.declared.Fields.{Fields}
-use Rattle.rules.specs.World.{World, bookOf, InBook}
+use Rattle.rules.specs.Basics.{within}
+use Rattle.rules.specs.Lines.{Measure, line}
+use Rattle.rules.specs.World.{World, bookOf, termsOf, gridCompany, energinet, InBook}
 use Rattle.rules.specs.Opening.{openingAnswer, afterOpening}
 use Rattle.rules.specs.Effects.{answer, step, recordsOf}
 use Rattle.rules.specs.Queries.{lineNumber, lineQuery, lineGiven, ownLine, periodsNumber, periodsRead, dayNumber, dayQuery}
+use Rattle.rules.specs.Packed.{ownedSum, inOre, packedSize, packed, readPacked, sumNumber, sumWritten, readNumber}
 use Rattle.rules.specs.Fresh.{freshFacts}
 use Rattle.rules.specs.Claim.{Event, reached}
 use Rattle.ledger.specs.RecordNumbers.{numbersAfter}
 use Rattle.queries.specs.Promises.{PeriodsAt}
 use Rattle.settlement.specs.Replies.{roomIn}
-use Rattle.settlement_book.specs.Numbers.{numbersIn, lineNumbers, dayAfter}
+use Rattle.settlement_book.specs.Numbers.{numbersIn, lineNumbers, dayAfter, amountAfter}
 
 -- an opening of the world w that leaves the world after, and of the book's numbers
 pub record OpensIn (w after : World) (lent out : List ℕ) (r : ℕ) : Type 0 where
@@ -54,3 +57,18 @@ pub record PeriodsIn (w : World) (point element : ℕ) (r p₀ p n₀ n told : �
 pub record DayIn (w : World) (point : ℕ) (r lent out : ℕ) : Type 0 where
   pub number : r ≡ dayNumber w point
   pub day : out ≡ dayAfter (dayQuery w point) lent
+
+-- the sum of a supplier and an owner as packed decimal: the number, and the lent bytes. For a book reached from an opening, with eight
+-- bytes and a supplier and an owner that there are, no question says no, and the sum is that of fresh settlement's lines
+pub record PackedIn (w : World) (supplier owner : ℕ) (r : ℕ) (lent out : List ℕ) : Type 0 where
+  pub number : r ≡ sumNumber w supplier owner (length lent)
+  pub bytes : out ≡ sumWritten w supplier owner lent
+  pub settled : (w₀ : World) (vs : List Event) → openingAnswer w₀ ≡ 0 → w ≡ reached w₀ vs .world
+      → within 1 (w₀ .opening .suppliers) supplier ≡ true → within gridCompany energinet owner ≡ true → length lent ≡ packedSize
+      → (r ≡ 0) × (out ≡ packed (inOre (ownedSum (w₀ .opening) owner
+      (λ e. line (termsOf (w₀ .opening)) (freshFacts (reached w₀ vs .fresh)) Measure.amount supplier e))))
+
+-- packed decimal, read: the number, and the lent amount in øre
+pub record ReadIn (bytes : List ℕ) (r : ℕ) (lent out : ℤ) : Type 0 where
+  pub number : r ≡ readNumber (readPacked bytes)
+  pub amount : out ≡ amountAfter (readPacked bytes) lent

@@ -9,11 +9,11 @@ ghost use mathlib.Core.Path.{_≡_};
 ghost use lib.ListN.{length};
 ghost use Rattle.rules.specs.Sizes.{lineSize};
 ghost use Rattle.rules.specs.Whole.{Whole};
-ghost use Rattle.rules.specs.Lent.{Lists, worldIn, given, lent, lendLinks, lendRows, lendLines, left, was};
+ghost use Rattle.rules.specs.Lent.{Lists, worldIn, given, lent, lendData, lendLinks, lendRows, lendLines, left, was};
 ghost use Rattle.settlement.specs.Replies.{Replied};
 ghost use Rattle.settlement_book.specs.Numbers.{bookSize, fieldsSize, bookIn, fieldsIn, freshIn};
 ghost use Rattle.settlement_book.specs.Numbers.{SizedBook, SizedMessage, SizedLine};
-ghost use Rattle.settlement_book.specs.Promises.{OpensIn, RepliesIn, LineIn, PeriodsIn, DayIn};
+ghost use Rattle.settlement_book.specs.Promises.{OpensIn, RepliesIn, LineIn, PeriodsIn, DayIn, PackedIn, ReadIn};
 
 pub mod numbers;
 pub mod questions;
@@ -29,7 +29,10 @@ use crate::numbers::put_reply;
 use crate::questions::Lengths;
 use crate::questions::check_book;
 use crate::questions::check_opening;
+use packed::is_packed;
+use packed::packed_amount;
 use queries::periods_place;
+use queries::sums::packed_sum;
 use recording::opening::clear_tables;
 use recording::opening::fresh_book;
 use recording::opening::named_book;
@@ -461,5 +464,83 @@ pub extern "C" fn settlement_book_day_without_holder(
         settlement_book_day_without_holder_within(book, links, holders, states, point, day)
     } else {
         number(asked)
+    }
+}
+
+// ---- amounts for the ledger
+
+// What a supplier owes for the elements of one owner, to the øre, in eight lent bytes as packed decimal, of a book that is well formed. For
+// the Rust wrapper alone. Linear in the elements.
+#[no_mangle]
+pub extern "C" fn settlement_book_packed_sum_within(
+    book: &[u64],
+    element_data: &[u8],
+    lines: &[i64],
+    supplier: u64,
+    owner: u64,
+    bytes: &mut [u8],
+) -> u64
+    requires { ⌜ length (now book) ≡ bookSize ⌝ }
+    requires { ⌜ ((o : Lists) × Whole (worldIn (bookIn (now book)) (lendData (now element_data) (lendLines (now lines) o)))) ⌝ }
+    ensures { λ r. ⌜ ((o : Lists) →
+        let w = worldIn (bookIn (was book)) (lendData (was element_data) (lendLines (was lines) o)) in
+        Whole w → PackedIn w supplier owner r (was bytes) (left bytes)) ⌝ }
+{
+    number(packed_sum(book_of(book), element_data, lines, supplier, owner, bytes))
+}
+
+// The same of any book and any tables. Linear in what is lent, for the questions of the book.
+#[no_mangle]
+pub extern "C" fn settlement_book_packed_sum(
+    book: &[u64],
+    element_data: &[u8],
+    prices: &[i64],
+    links: &[u64],
+    holders: &[u64],
+    states: &[u64],
+    readings: &[u32],
+    blocks: &[u8],
+    lines: &[i64],
+    sent: &[i64],
+    supplier: u64,
+    owner: u64,
+    bytes: &mut [u8],
+) -> u64
+    ensures answers { λ r. ⌜ (let t = lent element_data prices links holders states readings blocks lines sent in
+        SizedBook (was book) → PackedIn (worldIn (bookIn (was book)) (t .entry)) supplier owner r (was bytes) (left bytes)) ⌝ }
+    ensures otherwise { λ r. ⌜ ((SizedBook (was book) → ⊥) → (r ≡ 3) × (left bytes ≡ was bytes)) ⌝ }
+{
+    if book.len() != BOOK_SIZE {
+        return number(Answer::WrongLength);
+    }
+    let asked = check_book(
+        book_of(book),
+        element_data,
+        prices,
+        links,
+        holders,
+        states,
+        readings,
+        blocks,
+        lines,
+        sent,
+    );
+    if number(asked) == 0 {
+        settlement_book_packed_sum_within(book, element_data, lines, supplier, owner, bytes)
+    } else {
+        number(asked)
+    }
+}
+
+// The amount in øre that lent bytes, of any length and whatever they are, have as packed decimal; or question 24, which writes nothing.
+#[no_mangle]
+pub extern "C" fn settlement_book_read_packed(bytes: &[u8], amount: &mut i64) -> u64
+    ensures { λ r. ⌜ ReadIn (was bytes) r (was amount) (left amount) ⌝ }
+{
+    if is_packed(bytes) {
+        *amount = packed_amount(bytes);
+        0
+    } else {
+        number(Answer::NotPacked)
     }
 }

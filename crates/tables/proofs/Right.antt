@@ -212,7 +212,3 @@ whole-rows b o c =
       holders-clear = holders-clear (o .holders) (b .holders) (n .holders .1) (n .holders .0) (openingIn b o) (r .holders);
       states-clear = states-clear (o .states) (b .states) (n .states .1) (n .states .0) (openingIn b o) (r .states);
     }
-
--- one more place passed
-pub one-more : (f : ℕ → Bool) (i : ℕ) → ((k : ℕ) → k < i → f k ≡ true) → f i ≡ true → (k : ℕ) → k < i + 1 → f k ≡ true
-one-more f i h t k l = cases (eqb k i) (λ e. rw (eqb-true k i e) t) (λ e. h k (omega (arith, tests)))

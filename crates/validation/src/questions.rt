@@ -173,6 +173,7 @@ pub fn number(answer: Answer) -> u64
         Answer::OutsideMonth => 16,
         Answer::TableFull => 17,
         Answer::ListFull => 18,
+        Answer::NotPacked => 24,
     }
 }
 

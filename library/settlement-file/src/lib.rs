@@ -1,5 +1,6 @@
 //! The settlement file of document 01: its fields, what they open a book with, and
-//! what `settle` prints for a file, with any book that takes messages ([`Settle`]).
+//! what `settle` prints for a file or the book that the file leaves, with any book that
+//! takes messages ([`Settle`]).
 
 #![forbid(unsafe_code)]
 
@@ -9,7 +10,7 @@ mod settle;
 
 pub use calendar::{DAY_COUNT, days_in_month, first_day};
 pub use fields::{Message, Messages, Opening};
-pub use settle::{RECORD_SIZE, Settle, output, print_month, print_record, program};
+pub use settle::{RECORD_SIZE, Settle, output, print_month, print_record, program, settled};
 
 /// A calendar month: year 2000 to 2099, month 1 to 12.
 #[derive(Clone, Copy, Debug, PartialEq, Eq)]

@@ -44,8 +44,13 @@ pub fn output<B: Settle>(bytes: &[u8], most_points: u64) -> Vec<u8> {
     printed
 }
 
+/// The book as these bytes leave it, or the question from 1 to 4 that ends the run.
+pub fn settled<B: Settle>(bytes: &[u8], most_points: u64) -> Result<B, u64> {
+    run(bytes, most_points, &mut Vec::new())
+}
+
 /// Runs to the end, or to the question from 1 to 4 that ends the run.
-fn run<B: Settle>(mut bytes: &[u8], most_points: u64, printed: &mut Vec<u8>) -> Result<(), u64> {
+fn run<B: Settle>(mut bytes: &[u8], most_points: u64, printed: &mut Vec<u8>) -> Result<B, u64> {
     let mut opening = Opening::read_month(&mut bytes)?;
     let messages = opening.read_elements(bytes)?;
     let Opening { month, counts, .. } = opening;
@@ -60,7 +65,7 @@ fn run<B: Settle>(mut bytes: &[u8], most_points: u64, printed: &mut Vec<u8>) -> 
             print_refused(printed, number, question);
         }
     }
-    Ok(())
+    Ok(book)
 }
 
 /// The line of an open book: its month, how many days that has, and the first of them.

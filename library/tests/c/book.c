@@ -1,5 +1,6 @@
-/* The functions of settlement_book.h, called from C: document 01's worked example (March 2024) with queries, balances, refusals, and wrong
- * lengths for every function. Prints a line for each expectation that fails and ends with status 1, or prints how many held.
+/* The functions of settlement_book.h, called from C: document 01's worked example (March 2024) with queries, balances, refusals, packed
+ * amounts, and wrong lengths for every function. Prints a line for each expectation that fails and ends with status 1, or prints how many
+ * held.
  *
  * Everything that is lent lies in one block of memory with guard bytes around each part, so that comparing the block with a copy of it
  * says which parts a call has written, and that it wrote nothing outside them. */
@@ -18,12 +19,14 @@
 #define FIRST_DAY 8826
 #define POINTS 1
 #define SUPPLIERS 2
-#define ELEMENTS 2
+#define ELEMENTS 12
 #define LINE_COUNT (SUPPLIERS * ELEMENTS)
 
 static const uint8_t element_data[ELEMENTS * SETTLEMENT_BOOK_ELEMENT_SIZE] = {
     1, 1, 0, /* a subscription of the grid company */
     3, 1, 0, /* a day tariff of the grid company */
+    /* ten fees of Energinet's, which no message links */
+    2, 2, 0, 2, 2, 0, 2, 2, 0, 2, 2, 0, 2, 2, 0, 2, 2, 0, 2, 2, 0, 2, 2, 0, 2, 2, 0, 2, 2, 0,
 };
 
 static const int64_t prices[ELEMENTS * SETTLEMENT_BOOK_ELEMENT_PRICES] = {
@@ -57,6 +60,9 @@ enum part {
     COUNT,
     READ,
     DAY,
+    BYTES,  /* what a packed sum is written to */
+    PACKED, /* what is read as a packed amount */
+    AMOUNT,
     PARTS
 };
 
@@ -88,6 +94,9 @@ static const struct {
     [COUNT] = {sizeof(uint64_t), 1},
     [READ] = {sizeof(uint64_t), 1},
     [DAY] = {sizeof(uint64_t), 1},
+    [BYTES] = {sizeof(uint8_t), SETTLEMENT_BOOK_PACKED_SIZE},
+    [PACKED] = {sizeof(uint8_t), SETTLEMENT_BOOK_PACKED_SIZE},
+    [AMOUNT] = {sizeof(int64_t), 1},
 };
 
 /* guard bytes before the first part and behind each; parts begin at multiples of it */
@@ -185,7 +194,7 @@ static int changed_only(unsigned may) {
         SLICE(uint8_t, BLOCKS), SLICE(int64_t, LINES), SLICE(int64_t, SENT)
 
 /* what a query asks for */
-static uint64_t asked_supplier, asked_point, asked_element;
+static uint64_t asked_supplier, asked_point, asked_element, asked_owner;
 
 static uint64_t call_open(void) { return settlement_book_open(TABLES); }
 
@@ -203,6 +212,12 @@ static uint64_t call_periods(void) {
 
 static uint64_t call_day(void) { return settlement_book_day_without_holder(TABLES, asked_point, numbers(DAY)); }
 
+static uint64_t call_packed_sum(void) {
+    return settlement_book_packed_sum(TABLES, asked_supplier, asked_owner, SLICE(uint8_t, BYTES));
+}
+
+static uint64_t call_read_packed(void) { return settlement_book_read_packed(SLICE(uint8_t, PACKED), amounts(AMOUNT)); }
+
 #define EVERY_TABLE ((1u << (SENT + 1)) - 1)
 
 static const struct function {
@@ -216,14 +231,17 @@ static const struct function {
     {"settlement_book_line", call_line, EVERY_TABLE | ONLY(LINE)},
     {"settlement_book_periods", call_periods, EVERY_TABLE},
     {"settlement_book_day_without_holder", call_day, EVERY_TABLE},
+    {"settlement_book_packed_sum", call_packed_sum, EVERY_TABLE},
+    {"settlement_book_read_packed", call_read_packed, NOTHING},
 };
 
-enum { OPEN, MESSAGE, QUERY_LINE, QUERY_PERIODS, QUERY_DAY, FUNCTIONS };
+/* the first ones are lent a book */
+enum { OPEN, MESSAGE, QUERY_LINE, QUERY_PERIODS, QUERY_DAY, PACKED_SUM, BOOK_FUNCTIONS, READ_PACKED = BOOK_FUNCTIONS };
 
 /* Calls a function that is to give an answer and to change nothing but the parts that it may. What it may give beside the answer holds
  * something else before, so that a number written too much is seen. */
 static void call(int function, const char *what, uint64_t answer, unsigned may) {
-    static const enum part given[] = {RECORDS, LINE, PLACE, COUNT, READ, DAY};
+    static const enum part given[] = {RECORDS, LINE, PLACE, COUNT, READ, DAY, BYTES, AMOUNT};
     for (size_t i = 0; i < sizeof given / sizeof given[0]; i++) {
         memset(start[given[i]], STALE_BYTE, size_of(given[i]));
     }
@@ -312,6 +330,30 @@ static void day_is(uint64_t day) {
     expect_number("day without a holder", "the day", (int64_t)*numbers(DAY), (int64_t)day);
 }
 
+static void packed_is(const char *what, uint64_t supplier, uint64_t owner, const uint8_t bytes[SETTLEMENT_BOOK_PACKED_SIZE]) {
+    asked_supplier = supplier;
+    asked_owner = owner;
+    call(PACKED_SUM, what, SETTLEMENT_BOOK_ACCEPTED, ONLY(BYTES));
+    expect(what, "the bytes", memcmp(start[BYTES], bytes, size_of(BYTES)) == 0);
+}
+
+static void packed_refused(const char *what, uint64_t supplier, uint64_t owner, uint64_t question) {
+    asked_supplier = supplier;
+    asked_owner = owner;
+    refused(PACKED_SUM, what, question);
+}
+
+static void amount_is(const char *what, const uint8_t bytes[SETTLEMENT_BOOK_PACKED_SIZE], int64_t ore) {
+    memcpy(start[PACKED], bytes, size_of(PACKED));
+    call(READ_PACKED, what, SETTLEMENT_BOOK_ACCEPTED, ONLY(AMOUNT));
+    expect_number(what, "the amount", *amounts(AMOUNT), ore);
+}
+
+static void amount_refused(const char *what, const uint8_t bytes[SETTLEMENT_BOOK_PACKED_SIZE]) {
+    memcpy(start[PACKED], bytes, size_of(PACKED));
+    refused(READ_PACKED, what, 24);
+}
+
 /* ---- the tests */
 
 static void set_month(uint64_t year, uint64_t month) {
@@ -381,6 +423,11 @@ static void worked_example(void) {
     line_refused(0, 0, 6);
     line_refused(SUPPLIERS + 1, 0, 6);
     line_refused(1, ELEMENTS, 8);
+
+    /* 19.854830 and 21.895152 kroner for the grid company's elements, and nothing for Energinet's */
+    packed_is("packed sum of supplier 1", 1, 1, (const uint8_t[]){0, 0, 0, 0, 0, 0x01, 0x98, 0x5c});
+    packed_is("packed sum of supplier 2", 2, 1, (const uint8_t[]){0, 0, 0, 0, 0, 0x02, 0x19, 0x0c});
+    packed_is("packed sum of Energinet's", 2, 2, (const uint8_t[]){0, 0, 0, 0, 0, 0, 0, 0x0c});
 }
 
 /* One message for each question that this book can be brought to say no by. */
@@ -392,7 +439,7 @@ static void refused_messages(void) {
         {6, {1, 1, 0, FIRST_DAY, 0, 0, SETTLEMENT_BOOK_NO_DAY, 0, 1}},           /* behind the last day */
         {6, {UINT64_MAX, UINT64_MAX, UINT64_MAX, UINT64_MAX, UINT64_MAX, 0, 0, 0, 0}},
         {7, {7, 1, 0, FIRST_DAY, POINTS, 0, 0, 0, 1}},                           /* point 1 */
-        {8, {2, 1, 0, FIRST_DAY, 0, ELEMENTS, FIRST_DAY, 0, 0}},                 /* element 2 */
+        {8, {2, 1, 0, FIRST_DAY, 0, ELEMENTS, FIRST_DAY, 0, 0}},                 /* element 12 */
         {9, {1, 2, 0, FIRST_DAY, 0, 0, FIRST_DAY, 0, 1}},                        /* Energinet */
         {10, {1, 1, 0, FIRST_DAY, 0, 0, FIRST_DAY - 91, 0, 1}},                  /* 91 days before */
         {11, {1, 1, 0, FIRST_DAY, 0, 0, FIRST_DAY - 1, 0, 1}},                   /* before the first state */
@@ -473,6 +520,151 @@ static void days_without_holder(void) {
     refused(QUERY_DAY, "day without a holder that is refused", 7);
 }
 
+static void set_line(uint64_t supplier, uint64_t element, int64_t kroner, int64_t billionths) {
+    int64_t *line = amounts(LINES) + ((supplier - 1) * ELEMENTS + element) * SETTLEMENT_BOOK_LINE_SIZE;
+    line[1] = kroner;
+    line[2] = billionths;
+}
+
+/* the first and the last of Energinet's elements */
+#define FIRST_FEE 2
+#define LAST_FEE (ELEMENTS - 1)
+/* what question 5 lets a line come to, in kroner */
+#define MOST_KRONER 1000000000000
+
+/* Amounts of one line, packed and read. The line of the other owner and that of the other supplier are not counted. */
+static void known_amounts(void) {
+    static const struct {
+        int64_t kroner, billionths, ore;
+        uint8_t bytes[SETTLEMENT_BOOK_PACKED_SIZE];
+    } known[] = {
+        {0, 0, 0, {0, 0, 0, 0, 0, 0, 0, 0x0c}},
+        {0, 10000000, 1, {0, 0, 0, 0, 0, 0, 0, 0x1c}},
+        {-1, 930000000, -7, {0, 0, 0, 0, 0, 0, 0, 0x7d}},
+        {1234, 560000000, 123456, {0, 0, 0, 0, 0x01, 0x23, 0x45, 0x6c}},
+        {-1235, 440000000, -123456, {0, 0, 0, 0, 0x01, 0x23, 0x45, 0x6d}},
+        {876543210123, 450000000, 87654321012345, {0x08, 0x76, 0x54, 0x32, 0x10, 0x12, 0x34, 0x5c}},
+        {-123456789099, 240000000, -12345678909876, {0x01, 0x23, 0x45, 0x67, 0x89, 0x09, 0x87, 0x6d}},
+        {MOST_KRONER, 0, 100000000000000, {0x10, 0, 0, 0, 0, 0, 0, 0x0c}},
+        /* halves of an øre, and a billionth less than that, on both sides of zero */
+        {0, 5000000, 1, {0, 0, 0, 0, 0, 0, 0, 0x1c}},
+        {0, 4999999, 0, {0, 0, 0, 0, 0, 0, 0, 0x0c}},
+        {0, 25000000, 3, {0, 0, 0, 0, 0, 0, 0, 0x3c}},
+        {-1, 995000000, -1, {0, 0, 0, 0, 0, 0, 0, 0x1d}},
+        {-1, 995000001, 0, {0, 0, 0, 0, 0, 0, 0, 0x0c}},
+        {-1, 975000000, -3, {0, 0, 0, 0, 0, 0, 0, 0x3d}},
+        /* -0.004 kroner are zero, which has no minus */
+        {-1, 996000000, 0, {0, 0, 0, 0, 0, 0, 0, 0x0c}},
+    };
+    set_line(1, 0, 5, 0);
+    set_line(2, FIRST_FEE, 6, 0);
+    for (size_t i = 0; i < sizeof known / sizeof known[0]; i++) {
+        set_line(1, FIRST_FEE, known[i].kroner, known[i].billionths);
+        packed_is("known amount", 1, 2, known[i].bytes);
+        amount_is("known amount, read", known[i].bytes, known[i].ore);
+    }
+    packed_is("packed sum of the other owner", 1, 1, (const uint8_t[]){0, 0, 0, 0, 0, 0, 0x50, 0x0c});
+    packed_is("packed sum of the other supplier", 2, 2, (const uint8_t[]){0, 0, 0, 0, 0, 0, 0x60, 0x0c});
+
+    /* two lines of 0.004 kroner are an øre, which either alone is not */
+    set_line(1, FIRST_FEE, 0, 4000000);
+    set_line(1, LAST_FEE, 0, 4000000);
+    packed_is("sum that is rounded once", 1, 2, (const uint8_t[]){0, 0, 0, 0, 0, 0, 0, 0x1c});
+}
+
+/* Ten lines: the largest sums that fit, and what is beyond them. */
+static void largest_amounts(void) {
+    static const uint8_t largest[] = {0x99, 0x99, 0x99, 0x99, 0x99, 0x99, 0x99, 0x9c};
+    static const uint8_t smallest[] = {0x99, 0x99, 0x99, 0x99, 0x99, 0x99, 0x99, 0x9d};
+    for (uint64_t element = FIRST_FEE; element <= LAST_FEE; element++) {
+        set_line(1, element, MOST_KRONER, 0);
+        set_line(2, element, -MOST_KRONER, 0);
+    }
+    packed_refused("sum an øre beyond the largest", 1, 2, 24);
+    packed_refused("sum an øre beyond the smallest", 2, 2, 24);
+    set_line(1, LAST_FEE, MOST_KRONER - 1, 995000000);
+    set_line(2, LAST_FEE, -MOST_KRONER, 5000000);
+    packed_refused("sum that is rounded to an øre beyond the largest", 1, 2, 24);
+    packed_refused("sum that is rounded to an øre beyond the smallest", 2, 2, 24);
+    set_line(1, LAST_FEE, MOST_KRONER - 1, 994999999);
+    set_line(2, LAST_FEE, -MOST_KRONER, 5000001);
+    packed_is("sum that is rounded to the largest", 1, 2, largest);
+    packed_is("sum that is rounded to the smallest", 2, 2, smallest);
+    set_line(1, LAST_FEE, MOST_KRONER - 1, 990000000);
+    set_line(2, LAST_FEE, -MOST_KRONER, 10000000);
+    packed_is("largest sum", 1, 2, largest);
+    packed_is("smallest sum", 2, 2, smallest);
+    amount_is("largest sum, read", largest, 999999999999999);
+    amount_is("smallest sum, read", smallest, -999999999999999);
+}
+
+/* Other lengths than eight are question 24, which comes behind question 6; the length of the book's numbers comes before both. */
+static void packed_lengths(void) {
+    static const size_t wrong[] = {0, SETTLEMENT_BOOK_PACKED_SIZE - 1, SETTLEMENT_BOOK_PACKED_SIZE + 1};
+    static const uint8_t seven[] = {0, 0, 0, 0, 0, 0, 0, 0x7c};
+    for (size_t i = 0; i < sizeof wrong / sizeof wrong[0]; i++) {
+        length[BYTES] = length[PACKED] = wrong[i];
+        packed_refused("packed sum of another length", 1, 1, 24);
+        packed_refused("packed sum of supplier 0, of another length", 0, 1, 6);
+        packed_refused("packed sum of owner 3, of another length", 1, 3, 6);
+        length[BOOK] = SETTLEMENT_BOOK_SIZE - 1;
+        packed_refused("packed sum of a short book, of another length", 0, 3, SETTLEMENT_BOOK_WRONG_LENGTH);
+        length[BOOK] = SETTLEMENT_BOOK_SIZE;
+        amount_refused("packed amount of another length", seven);
+    }
+    length[BYTES] = length[PACKED] = SETTLEMENT_BOOK_PACKED_SIZE;
+    amount_is("packed amount of eight bytes", seven, 7);
+    for (uint64_t owner = 1; owner <= 2; owner++) {
+        packed_refused("packed sum of supplier 0", 0, owner, 6);
+        packed_refused("packed sum of supplier 3", SUPPLIERS + 1, owner, 6);
+    }
+    packed_refused("packed sum of owner 0", 1, 0, 6);
+    packed_refused("packed sum of owner 3", 1, 3, 6);
+}
+
+/* Bytes with one half-byte another, counted from the upper half of the first byte. */
+static void amount_with(uint8_t bytes[SETTLEMENT_BOOK_PACKED_SIZE], int place, int half) {
+    int shift = place % 2 == 0 ? 4 : 0;
+    bytes[place / 2] = (uint8_t)((bytes[place / 2] & ~(0xf << shift)) | half << shift);
+}
+
+/* Every digit above 9 and every other sign, and minus zero. */
+static void wrong_half_bytes(void) {
+    static const uint8_t right[] = {0x12, 0x34, 0x56, 0x78, 0x90, 0x98, 0x76, 0x5c};
+    static const uint8_t minus_zero[] = {0, 0, 0, 0, 0, 0, 0, 0x0d};
+    uint8_t bytes[SETTLEMENT_BOOK_PACKED_SIZE];
+    for (int place = 0; place < 16; place++) {
+        for (int half = 0; half < 16; half++) {
+            if (place < 15 ? half <= 9 : half == 0xc || half == 0xd) {
+                continue;
+            }
+            memcpy(bytes, right, sizeof bytes);
+            amount_with(bytes, place, half);
+            amount_refused(place < 15 ? "digit above 9" : "another sign", bytes);
+        }
+    }
+    amount_refused("minus zero", minus_zero);
+    memcpy(bytes, right, sizeof bytes);
+    amount_is("right half-bytes", bytes, 123456789098765);
+    amount_with(bytes, 15, 0xd);
+    amount_is("right half-bytes below zero", bytes, -123456789098765);
+}
+
+/* A book whose lines were written by hand passes question 5 as long as they are within their bounds. */
+static void packed_amounts(void) {
+    int64_t *kept = allocate(size_of(LINES));
+    memcpy(kept, start[LINES], size_of(LINES));
+    memset(start[LINES], 0, size_of(LINES));
+    known_amounts();
+    largest_amounts();
+    packed_lengths();
+    wrong_half_bytes();
+    set_line(1, FIRST_FEE, MOST_KRONER, 1);
+    packed_refused("packed sum of a line out of bounds", 0, 3, 5);
+    memcpy(start[LINES], kept, size_of(LINES));
+    free(kept);
+}
+
 /* What every function accepts but for what the next two tests change. */
 static void ask_for_what_is_there(void) {
     static const uint64_t reading[] = {6, 1, 0, FIRST_DAY, 0, 0, FIRST_DAY, 0, 700};
@@ -480,12 +672,13 @@ static void ask_for_what_is_there(void) {
     asked_supplier = 1;
     asked_point = 0;
     asked_element = 0;
+    asked_owner = 1;
 }
 
-/* Of every function, every length: none, one too few and one too many. */
+/* Of every function that is lent a book, every length: none, one too few and one too many. */
 static void wrong_lengths(void) {
     ask_for_what_is_there();
-    for (int function = 0; function < FUNCTIONS; function++) {
+    for (int function = 0; function < BOOK_FUNCTIONS; function++) {
         for (int part = 0; part < PARTS; part++) {
             if (!(functions[function].slices & ONLY(part))) {
                 continue;
@@ -508,7 +701,7 @@ static void wrong_books(void) {
         uint64_t wrong;
     } slips[] = {{ROUND_AT, 0}, {FIRST_DAY_AT, FIRST_DAY - 1}, {DAYS_AT, DAYS - 1}};
     ask_for_what_is_there();
-    for (int function = 0; function < FUNCTIONS; function++) {
+    for (int function = 0; function < BOOK_FUNCTIONS; function++) {
         numbers(BOOK)[YEAR_AT] = 1999;
         refused(function, functions[function].name, 2);
         numbers(BOOK)[YEAR_AT] = YEAR;
@@ -531,6 +724,7 @@ int main(void) {
     balances_of_zero();
     periods();
     days_without_holder();
+    packed_amounts();
     wrong_lengths();
     wrong_books();
     free(memory);

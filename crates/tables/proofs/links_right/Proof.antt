@@ -7,7 +7,8 @@ use borrow.Author.Needs.{needs}
 use Rattle.rules.specs.Lent.{openingIn, lendData, noLists}
 use Rattle.rules.specs.WellFormed.{apart, periodRight, linksRight}
 use Rattle.tables.specs.Tests.{rowFitsAt}
-use Rattle.tables.proofs.Right.{table-rest, table-not, one-more, links-any}
+use Rattle.rules.proofs.Ranges.{one-more}
+use Rattle.tables.proofs.Right.{table-rest, table-not, links-any}
 use Rattle.tables.proofs.links_right.Statement.{statement}
 use Rattle.tables.proofs.links_right.Tie as tie
 

@@ -7,7 +7,8 @@ use borrow.Author.Needs.{needs}
 use Rattle.rules.specs.Lent.{openingIn, noLists}
 use Rattle.rules.specs.WellFormed.{earlier, valueRight}
 use Rattle.tables.specs.Tests.{rowFitsAt}
-use Rattle.tables.proofs.Right.{table-rest, table-not, one-more}
+use Rattle.rules.proofs.Ranges.{one-more}
+use Rattle.tables.proofs.Right.{table-rest, table-not}
 use Rattle.tables.proofs.values_right.Statement.{statement}
 use Rattle.tables.proofs.values_right.Tie as tie
 

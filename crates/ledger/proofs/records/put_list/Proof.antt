@@ -63,7 +63,7 @@ use Rattle.rules.specs.declared.Record.{Record}
 use Rattle.rules.proofs.Record as T
 use Rattle.rules.proofs.Record.Laws as T′
 use Rattle.ledger.specs.RecordNumbers.{recordAt, RecordPlaces}
-use Rattle.ledger.proofs.ListFronts.{front, front-is, front-none, front-more, length-front}
+use Rattle.rules.proofs.ListFronts.{front, front-is, front-none, front-more, length-front}
 use Rattle.ledger.proofs.records.record_at as nth
 use Rattle.ledger.proofs.records.record_at.Symbol as nth-def
 use Rattle.ledger.proofs.records.record_at.Symbol.{name as #records·record-at}

@@ -5,7 +5,8 @@ use borrow.Author.Tests.{le-leb, lt-leb}
 use mathlib.Core.Bool.{true}
 use lib.Dec.{leb}
 use lib.ListN.{length, getD}
-use Rattle.tables.proofs.Right.{in-all, in-not, one-more}
+use Rattle.rules.proofs.Ranges.{one-more}
+use Rattle.tables.proofs.Right.{in-all, in-not}
 use native.Mathlib.Omega.{arith}
 use borrow.Author.Needs.{needs}
 use Rattle.settlement_book.proofs.questions.readings_right.Statement.{statement}

@@ -1,0 +1,2 @@
+-- Laws by which the functions meet their contracts.
+pub mod Steps

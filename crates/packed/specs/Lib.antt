@@ -1,0 +1,1 @@
+-- What the functions of this crate are stated by stands in `rules`.
