@@ -23,7 +23,7 @@
  *    3  each table, and the caller's list for a book, a message or a line, has its exact length
  *    4  each element obeys its rules
  *    5  the book is well formed
- *    6  kind and fields are in range
+ *    6  kind and fields are in range; of a query, the supplier and the owner
  *    7  the point is in the book
  *    8  the element is in the book, and the quantity is 1 where a tariff is linked
  *    9  the sender may

@@ -20,18 +20,13 @@ use Rattle.rules.specs.Packed.{packedSize, packedByte, packedBytes, signIn, dig
 use Rattle.rules.proofs.Tests.{both}
 use Rattle.rules.proofs.Ranges.{all-at}
 use Rattle.rules.proofs.ListFronts.{front, front-is}
-use Rattle.rules.proofs.Packed.{digits-small, digit-low}
+use Rattle.rules.proofs.Packed.{digit-more, digits-small, digit-low}
 
 -- ---- writing
 
-pub digit-last : (n : ℕ) → digitAt n 0 ≡ n % 10
-unfolding digitAt
-digit-last n = refl
-
 pub digit-before : (n i : ℕ) → 0 < i → digitAt n i ≡ digitAt (n / 10) (i - 1)
-unfolding digitAt
 digit-before n zero h = absurd (omega arith)
-digit-before n (suc i) h = let e : suc i - 1 ≡ i = omega arith in rw e
+digit-before n (suc i) h = let e : suc i - 1 ≡ i = omega arith in rw e (digit-more n i)
 
 pub sign-below : (a : ℤ) → ltZ a (pos 0) ≡ true → signBelow ≡ signOf a
 sign-below (pos n) h = let l : n < 0 = ltb-true n 0 h in absurd (omega arith)

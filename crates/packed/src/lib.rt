@@ -30,7 +30,8 @@ fn digit_at(number: u64, place: u64) -> u64
 
 // The half-byte for the sign: D below zero, else C.
 pub fn sign_of(amount: i64) -> u64
-    ensures { λ r. ⌜ r ≡ signOf amount ⌝ }
+    ensures sign { λ r. ⌜ r ≡ signOf amount ⌝ }
+    ensures half { λ r. ⌜ r ≤ 15 ⌝ }
 {
     if amount < 0 { SIGN_BELOW } else { SIGN_ABOVE }
 }

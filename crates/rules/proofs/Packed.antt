@@ -5,16 +5,19 @@ use mathlib.Core.Path.{_≡_, refl, sym, ap, ap₂, _∙_}
 use mathlib.Core.Bool.{Bool, true, false, not, _&&_, _||_, cond, false≢true}
 use mathlib.Core.List.{List, [], _∷_}
 use mathlib.Core.Option.{Option, none, some}
-use lib.IntN.{ℤ, pos, negsuc, natAbs, negℤ}
+use lib.IntN.{ℤ, pos, negsuc, natAbs, negℤ, _-ℤ_, _*ℤ_}
 use lib.ListN.{length, getD}
 use lib.Seq.{ext-getD}
 use lib.Dec.{leb, ltb, eqb}
 use borrow.Author.Tests.{lt-ltb, le-ltb, le-leb, leb-true, eqb-true, eq-eqb, ne-eqb, ltb-true}
-use native.Mathlib.Nat.{pow-suc}
+use native.Mathlib.Nat.{pow-suc, mul-comm, div-one, div-div-eq-div-mul}
 use native.Mathlib.Omega.{arith}
 use Rattle.integers.specs.Division.{nearest}
+use Rattle.integers.specs.Sums.{sumTo}
+use Rattle.integers.proofs.Nearest.{nearest-half}
 use Rattle.rules.specs.Basics.{allTo, listTo, when}
-use Rattle.rules.specs.Packed.{inOre, packedSize, digitCount, signAbove, signBelow, fits, digitAt, signOf, packedHalf, packedByte}
+use Rattle.rules.specs.World.{Opening, ownerOf, gridCompany, energinet}
+use Rattle.rules.specs.Packed.{ownedSum, ore, inOre, packedSize, digitCount, signAbove, signBelow, fits, digitAt, signOf, packedHalf, packedByte}
 use Rattle.rules.specs.Packed.{packedBytes, packed, halfIn, digitsIn, signIn, digitsRight, signRight, isPacked, packedAmount, readPacked}
 use Rattle.rules.proofs.Tests.{tests, cases, both}
 use Rattle.rules.proofs.Ranges.{all-at, all-true, length-listTo, getD-listTo}
@@ -35,10 +38,21 @@ unfolding tenths
 tenths-none n zero h = omega arith
 tenths-none n (suc i) h = let l : n < 10 ^ i * 10 = rw pow-suc at h in tenths-none (n / 10) i (omega arith)
 
+-- the last digit, and those before it by the tenth part
+pub digit-last : (n : ℕ) → digitAt n 0 ≡ n % 10
+unfolding digitAt
+digit-last n = ap (λ (m : ℕ). m % 10) (div-one n)
+
+pub digit-more : (n i : ℕ) → digitAt n (suc i) ≡ digitAt (n / 10) i
+unfolding digitAt
+digit-more n i =
+    ap (λ (m : ℕ). n / m % 10) (pow-suc 10 i ∙ mul-comm (10 ^ i) 10)
+    ∙ ap (λ (m : ℕ). m % 10) (sym (div-div-eq-div-mul n 10 (10 ^ i)))
+
 digit-tenths : (n i : ℕ) → digitAt n i ≡ tenths n i % 10
-unfolding digitAt tenths
-digit-tenths n zero = refl
-digit-tenths n (suc i) = digit-tenths (n / 10) i
+unfolding tenths
+digit-tenths n zero = digit-last n
+digit-tenths n (suc i) = digit-more n i ∙ digit-tenths (n / 10) i
 
 pub digit-le : (n i : ℕ) → digitAt n i ≤ 9
 digit-le n i = rw digit-tenths (omega arith)
@@ -127,7 +141,7 @@ read-packed (negsuc n) h =
 
 -- a digit of the number that is read is the half-byte that stands there
 digit-read : (bs : List ℕ) (n h : ℕ) → ((i : ℕ) → i < n → halfIn bs i ≤ 9) → h < n → digitAt (digitsIn bs n) (n - 1 - h) ≡ halfIn bs h
-unfolding digitsIn digitAt
+unfolding digitsIn
 digit-read bs zero h r l = absurd (omega arith)
 digit-read bs (suc n) h r l =
     let d = r n (omega arith) in
@@ -136,11 +150,12 @@ digit-read bs (suc n) h r l =
     (λ t. let e : h ≡ n = eqb-true h n t in
     let z : suc n - 1 - h ≡ 0 = omega arith in
     let v : x % 10 ≡ halfIn bs n = omega arith in
-    rw (z, e) v)
+    ap (digitAt x) z ∙ digit-last x ∙ v ∙ ap (halfIn bs) (sym e))
     (λ t. let k : h < n = omega (arith, tests) in
     let z : suc n - 1 - h ≡ suc (n - 1 - h) = omega arith in
     let v : x / 10 ≡ digitsIn bs n = omega arith in
-    ap (digitAt x) z ∙ ap (λ y. digitAt y (n - 1 - h)) v ∙ digit-read bs n h (λ i m. r i (omega arith)) k)
+    ap (digitAt x) z ∙ digit-more x (n - 1 - h) ∙ ap (λ (y : ℕ). digitAt y (n - 1 - h)) v
+    ∙ digit-read bs n h (λ i m. r i (omega arith)) k)
 
 pub digits-small : (bs : List ℕ) (n : ℕ) → ((i : ℕ) → i < n → halfIn bs i ≤ 9) → digitsIn bs n < 10 ^ n
 unfolding digitsIn
@@ -214,13 +229,23 @@ module _ (bs : List ℕ) (h : isPacked bs ≡ true) where
   bytes-packed : bs ≡ packed (packedAmount bs)
   bytes-packed = rw (amount-read .0, amount-read .1) bytes-read
 
--- bytes that are read as an amount are what packing it gives, and it fits: "every amount that fits has one form"
+-- bytes that are read as an amount are what packing it gives, and it fits
 pub packed-read : (bs : List ℕ) (a : ℤ) → readPacked bs ≡ some a → (bs ≡ packed a) × (fits a ≡ true)
 unfolding readPacked when
 packed-read bs a h = cases (isPacked bs)
     (λ t. let e : packedAmount bs ≡ a = let z : some (packedAmount bs) ≡ some a = rw t at h in cc in
     rw (← e) (bytes-packed bs t, amount-fits bs t))
     (λ t. let z : _≡_ {A = Option ℤ} none (some a) = rw t at h in absurd (none-some a z))
+
+-- "every amount that fits has one form": the bytes that are read as it are those that packing gives, and no others
+pub one-form : (a : ℤ) → fits a ≡ true → (bs : List ℕ) → (readPacked bs ≡ some a → bs ≡ packed a) × (bs ≡ packed a → readPacked bs ≡ some a)
+one-form a h bs = (λ r. packed-read bs a r .0, λ p. ap readPacked p ∙ read-packed a h)
+
+-- ---- rounding
+
+-- what is rounded to the øre is within half an øre of the sum
+pub ore-near : (x : ℤ) → natAbs (inOre x *ℤ pos ore -ℤ x) * 2 ≤ ore
+ore-near x = nearest-half x ore (omega arith)
 
 -- ---- checks of the definitions, which no proof cites: numbers worked out by hand
 
@@ -245,3 +270,23 @@ pub none-known : (readPacked (0x00 ∷ 0x00 ∷ 0x00 ∷ 0x00 ∷ 0x00 ∷ 0x00 
     × (readPacked (0x00 ∷ 0x00 ∷ 0x00 ∷ 0x00 ∷ 0x00 ∷ 0x00 ∷ 0x1c ∷ []) ≡ none)
 unfolding readPacked isPacked digitsRight signRight digitsIn halfIn allTo when
 none-known = (refl, refl, refl, refl)
+
+-- three elements of the owners 1, 2 and 1, with amounts of 1, 20 and 300
+abbrev threeElements : Opening
+threeElements =
+    record {
+      year = 2024;
+      month = 3;
+      points = 1;
+      suppliers = 1;
+      elements = 3;
+      elementData = 1 ∷ 1 ∷ 0 ∷ 3 ∷ 2 ∷ 0 ∷ 2 ∷ 1 ∷ 0 ∷ [];
+      prices = [];
+    }
+
+abbrev threeAmounts : (element : ℕ) → ℤ
+threeAmounts e = getD (pos 1 ∷ pos 20 ∷ pos 300 ∷ []) e (pos 0)
+
+pub owned-known : (ownedSum threeElements gridCompany threeAmounts ≡ pos 301) × (ownedSum threeElements energinet threeAmounts ≡ pos 20)
+unfolding ownedSum ownerOf sumTo
+owned-known = (refl, refl)

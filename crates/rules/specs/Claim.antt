@@ -1,4 +1,4 @@
--- Demand 3, as one claim about every opening and every list of messages.
+-- Demand 3, with what requests 7 and 11 say of such lists, as one claim about every opening and every list of messages.
 use mathlib.Core.Path.{_≡_}
 use Prim.Native.Nat.{ℕ, suc, _+_, _≤_, _<_}
 use mathlib.Core.Bool.{Bool, true, false, _&&_, cond}

@@ -1,4 +1,4 @@
--- The definitions of document 01, in its order, and of request 11: what a reader must believe.
+-- The definitions of document 01, in its order, with those of the requests: what a reader must believe.
 pub mod Sizes
 pub mod Basics
 pub mod Rows

@@ -84,6 +84,16 @@ mostLineKroner = 1000000000000
 abbrev pub mostChange : ℕ
 mostChange = 1000000000000000000
 
+-- "eight bytes, fifteen digits of øre": an amount for the ledger, and the billionths of an øre
+abbrev pub packedSize : ℕ
+packedSize = 8
+
+abbrev pub digitCount : ℕ
+digitCount = 15
+
+abbrev pub ore : ℕ
+ore = 10000000
+
 -- the billionths of a krone, and of a millionth of it
 abbrev pub billion : ℕ
 billion = 1000000000

@@ -66,7 +66,7 @@ pub const SUPPLIER_DAYS_BACK: u64 = 21;
 // The billionths of an øre, and the øre of a krone.
 pub const ORE: u64 = 10000000;
 
-pub const KRONE: i64 = 100;
+pub const ORE_OF_KRONE: i64 = 100;
 
 // Bytes a packed number.
 pub const PACKED_SIZE: usize = 8;
@@ -242,7 +242,7 @@ pub struct Record {
     pub balance: Line,
 }
 
-// Accepted, or the question that says no: 1 to 18 are document 01's, 24 came with request 11.
+// Accepted, or the question that says no: 1 to 18 are document 01's, 24 is request 11's.
 pub enum Answer {
     Accepted,
     BrokenField,

@@ -2,7 +2,8 @@
 use Prim.Native.Nat.{_-_}
 use mathlib.Core.Path.{_≡_, sym, ap, _∙_}
 use Rattle.rules.specs.Packed.{digitAt}
-use Rattle.packed.proofs.Steps.{digit-last, digit-before}
+use Rattle.rules.proofs.Packed.{digit-last}
+use Rattle.packed.proofs.Steps.{digit-before}
 use native.Mathlib.Omega.{arith}
 use borrow.Author.Needs.{needs}
 use Rattle.packed.proofs.digit_at.Statement.{statement}

@@ -48,7 +48,8 @@ returns c o whole =
     let e = named .book-of .ensures in
     let h = asked .packed-sum .ensures o (held-whole named o whole) in
     packed-in (worldIn (bookIn (a .book .now)) (lent start o)) (a .supplier) (a .owner) _ (a .bytes .now) _
-    (c .number .ensures ∙ h .0 ∙ ap (λ (b : Book). sumNumber (worldIn b (lent start o)) (a .supplier) (a .owner) (length (a .bytes .now))) e)
+    (c .number .ensures ∙ h .0
+    ∙ ap (λ (b : Book). sumNumber (worldIn b (lent start o)) (a .supplier) (a .owner) (length (a .bytes .now))) e)
     (h .1 ∙ ap (λ (b : Book). sumWritten (worldIn b (lent start o)) (a .supplier) (a .owner) (a .bytes .now)) e)
 
 pub settlement-book-packed-sum-within-spec : {M : Type 1} → statement M
