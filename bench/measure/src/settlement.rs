@@ -2,6 +2,7 @@
 
 use crate::growth::{Cost, costs};
 use crate::inputs::{Input, MOST_IN_BATCH, empty_rounds};
+use settlement_book::PACKED_SIZE;
 use settlement_file::{Counts, Opening, RECORD_SIZE};
 use std::hint::black_box;
 use std::time::Instant;
@@ -10,9 +11,12 @@ use std::time::Instant;
 /// quantity, kroner and billionths of each.
 pub type Record = [i64; RECORD_SIZE];
 
+/// Fifteen digits of øre and a sign; zeros, which are none, where the query is refused.
+pub type PackedAmount = [u8; PACKED_SIZE];
+
 pub trait Settlement: Sized {
-    /// Of the line queries and of the rounds without differences, one in so many is
-    /// timed.
+    /// Of the line queries, of the packed sums and of the rounds without differences, one
+    /// in so many is timed.
     const SHARE: usize = 1;
 
     /// Opens a book that is known to be right.
@@ -34,6 +38,9 @@ pub trait Settlement: Sized {
     /// The earliest day of the month on which the point counts but for a missing holder
     /// and has a link.
     fn day_without_holder(&self, point: u64) -> Option<u64>;
+
+    /// What a supplier owes for the elements of an owner, as a packed amount.
+    fn packed_sum(&self, supplier: u64, owner: u64) -> PackedAmount;
 
     /// Ends the run: a database commits.
     fn finish(self) {}
@@ -66,7 +73,11 @@ pub struct Outcome {
     pub lines: Vec<(i64, i64, u64)>,
     pub periods: Vec<u64>,
     pub days_without_holder: Vec<Option<u64>>,
+    pub packed_sums: Vec<PackedAmount>,
 }
+
+/// The grid company and Energinet.
+const OWNERS: u64 = 2;
 
 /// Rounds without differences that are checked and timed.
 const EMPTY_CHECKED: usize = 2;
@@ -80,6 +91,7 @@ fn check<S: Settlement>(input: &Input) -> Outcome {
         lines: Vec::new(),
         periods: Vec::new(),
         days_without_holder: Vec::new(),
+        packed_sums: Vec::new(),
     };
     let after = empty_rounds(EMPTY_CHECKED);
     for batch in input.batches.iter().chain([&after]) {
@@ -94,6 +106,11 @@ fn check<S: Settlement>(input: &Input) -> Outcome {
     for supplier in 1..=counts.suppliers {
         for element in 0..counts.elements {
             outcome.lines.push(settlement.line(supplier, element));
+        }
+        for owner in 1..=OWNERS {
+            outcome
+                .packed_sums
+                .push(settlement.packed_sum(supplier, owner));
         }
     }
     for point in 0..counts.points {
@@ -136,6 +153,7 @@ impl Timing {
 pub const LINE_QUERIES: usize = 10;
 pub const PERIOD_QUERIES: usize = 11;
 pub const DAY_QUERIES: usize = 12;
+pub const SUM_QUERIES: usize = 13;
 const QUERIES: u64 = 20_000;
 
 /// Times each batch, and takes off what reading the clock costs.
@@ -172,6 +190,9 @@ fn by_kind<S: Settlement>(input: &Input) -> Timing {
         .map(|n| (n / elements % points, n % elements))
         .collect();
     let some_points: Vec<u64> = (0..QUERIES / 10).map(|n| n % points).collect();
+    let sums: Vec<(u64, u64)> = (0..QUERIES / 10 / S::SHARE as u64)
+        .map(|n| (1 + n / OWNERS % suppliers, 1 + n % OWNERS))
+        .collect();
     for lines in lines.chunks(MOST_IN_BATCH) {
         time(LINE_QUERIES, lines.len(), &mut || {
             for (supplier, element) in lines {
@@ -190,6 +211,13 @@ fn by_kind<S: Settlement>(input: &Input) -> Timing {
         time(DAY_QUERIES, some_points.len(), &mut || {
             for point in some_points {
                 black_box(settlement.day_without_holder(*point));
+            }
+        });
+    }
+    for sums in sums.chunks(MOST_IN_BATCH) {
+        time(SUM_QUERIES, sums.len(), &mut || {
+            for (supplier, owner) in sums {
+                black_box(settlement.packed_sum(*supplier, *owner));
             }
         });
     }

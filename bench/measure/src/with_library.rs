@@ -1,7 +1,7 @@
 //! The proved settlement, through the safe wrapper of its static library: messages
 //! and queries of a book that is well formed.
 
-use crate::settlement::{Record, Settlement};
+use crate::settlement::{PackedAmount, Record, Settlement};
 use settlement_book::{Book, Fields};
 use settlement_file::Opening;
 
@@ -80,5 +80,9 @@ impl Settlement for Library {
 
     fn day_without_holder(&self, point: u64) -> Option<u64> {
         self.book.day_without_holder(point).ok().flatten()
+    }
+
+    fn packed_sum(&self, supplier: u64, owner: u64) -> PackedAmount {
+        self.book.packed_sum(supplier, owner).unwrap_or_default()
     }
 }

@@ -1,7 +1,7 @@
 //! The settlement with SQLite, its database in memory: lines updated by each message,
 //! or summed by each round and line query.
 
-use crate::settlement::{Record, Settlement};
+use crate::settlement::{PackedAmount, Record, Settlement};
 use settlement_file::Opening;
 use sqlite::{Book, Lines};
 
@@ -53,6 +53,10 @@ impl<const SUMS: bool> Settlement for Sqlite<SUMS> {
 
     fn day_without_holder(&self, point: u64) -> Option<u64> {
         self.book.day_without_holder(point)
+    }
+
+    fn packed_sum(&self, supplier: u64, owner: u64) -> PackedAmount {
+        self.book.packed_sum(supplier, owner)
     }
 
     fn finish(self) {

@@ -1,6 +1,6 @@
 //! The settlement of `twin`.
 
-use crate::settlement::{Record, Settlement};
+use crate::settlement::{PackedAmount, Record, Settlement};
 use settlement_file::Opening;
 use twin::two_parts;
 
@@ -53,5 +53,9 @@ impl Settlement for Twin {
             .ok()
             .flatten()
             .map(u64::from)
+    }
+
+    fn packed_sum(&self, supplier: u64, owner: u64) -> PackedAmount {
+        self.book.packed_sum(supplier, owner).unwrap_or_default()
     }
 }

@@ -7,4 +7,7 @@
 mod book;
 mod file;
 
-pub use book::{Book, Line, MOST_POINTS, Period, Record, message, open, two_parts};
+pub use book::{
+    Book, Line, MOST_POINTS, PACKED_SIZE, Period, Record, message, open, packed, read_packed,
+    two_parts,
+};

@@ -1,9 +1,9 @@
-//! Nothing panics whatever the fields, balances are lines and sums of records, and the
-//! largest amounts are right.
+//! Nothing panics whatever the fields, balances are lines and sums of records, the largest
+//! amounts are right, and packed amounts are those of the proved library.
 
 use settlement_file::{Counts, Element, Month, output};
 use std::collections::BTreeMap;
-use twin::{Book, Record, message, open};
+use twin::{Book, Record, message, open, read_packed};
 
 fn number(state: &mut u64) -> u64 {
     *state = state.wrapping_add(0x9e37_79b9_7f4a_7c15);
@@ -122,6 +122,7 @@ fn any_fields() {
             let _ = book.line(fields[2], fields[5]);
             let _ = book.periods(fields[4], fields[5]);
             let _ = book.day_without_holder(fields[4]);
+            let _ = book.packed_sum(fields[2], fields[1]);
         }
     }
     assert!(accepted > 10_000, "only {accepted} accepted");
@@ -229,6 +230,10 @@ fn largest_month() {
             ),
         ]
     );
+    // The second sum has more than 64 bits.
+    let packed = |owner| book.packed_sum(1, owner).map(u64::from_be_bytes);
+    assert_eq!(packed(1), Ok(0x0002_5574_4000_077d));
+    assert_eq!(packed(2), Ok(0x0019_0463_9619_072c));
 }
 
 #[test]
@@ -245,4 +250,172 @@ fn a_record_in_numbers() {
     };
     let expected = [3, 16, 63, 250, -1, 750_000_000, 1750, -2, 250_000_000];
     assert_eq!(record.numbers(), expected);
+}
+
+/// Elements at prices of which one Wh or one day is often half an øre, a quarter of that,
+/// or nearly half.
+fn cheap_elements(count: u64, state: &mut u64) -> (Vec<Element>, Vec<i64>) {
+    let mut prices = Vec::new();
+    let elements = (0..count).map(|_| {
+        let [kind, owner] = [3, 2].map(|limit| 1 + (number(state) % limit) as u8);
+        let any = number(state) as i64 % 9_999;
+        let price = [5_000, -5_000, 1_250, any][number(state) as usize % 4];
+        let is_hourly = kind == 3 && number(state).is_multiple_of(2);
+        prices.extend((0..24).map(|hour| match kind {
+            _ if hour > 0 && !is_hourly => 0,
+            1 => 31 * price,
+            2 => price,
+            _ => 1_000 * price + number(state) as i64 % 2,
+        }));
+        let marks = if is_hourly { 8 } else { 0 };
+        Element { kind, owner, marks }
+    });
+    (elements.collect(), prices)
+}
+
+/// A message of any kind, mostly accepted.
+fn random_message(counts: Counts, elements: &[Element], state: &mut u64) -> [u64; 9] {
+    let mut below = |limit| number(state) % limit;
+    let (point, element) = (below(counts.points), below(counts.elements));
+    let (day, hour) = (8820 + below(45), below(24));
+    let Element { kind, owner, .. } = elements[element as usize];
+    let (owner, quantity) = (owner.into(), if kind == 3 { 1 } else { 1 + below(3) });
+    let most_wh = if below(8) == 0 { 9_999_999 } else { 3 };
+    let told = |kind, role, element, day, hour, value| {
+        [kind, role, 0, 8840, point, element, day, hour, value]
+    };
+    match 1 + below(8) {
+        kind @ (1 | 3) => told(kind, owner, element, day, 0, quantity),
+        2 => told(2, owner, element, day, 0, 0),
+        4 => told(4, 2, 0, day, 0, below(counts.suppliers + 1)),
+        5 => told(5, 1, 0, day, 0, 1 + below(3)),
+        6 => told(6, 1, 0, day, hour, below(most_wh + 1)),
+        7 => told(7, 1, 0, 0, 0, below(2)),
+        _ => [8, 2, 0, 8840, 0, 0, 0, 0, 0],
+    }
+}
+
+/// How many sums there were of some sorts.
+#[derive(Debug, Default)]
+struct Seen {
+    above: u64,
+    below: u64,
+    halves: u64,
+    /// Below zero, and zero when rounded.
+    to_zero: u64,
+}
+
+/// Packed sums are those of the library and of the lines.
+fn compare_sums(
+    book: &Book,
+    proved: &settlement_book::Book,
+    elements: &[Element],
+    seen: &mut Seen,
+) {
+    let suppliers = 0..=proved.counts().suppliers + 1;
+    for supplier in suppliers.chain([1 << 32 | 1, u64::MAX]) {
+        for owner in [0, 1, 2, 3, 257, u64::MAX] {
+            let found = book.packed_sum(supplier, owner);
+            let expected = proved.packed_sum(supplier, owner);
+            assert_eq!(found, expected.map_err(|question| question.number()));
+            let Ok(packed) = found else {
+                continue;
+            };
+            let owned = (0..)
+                .zip(elements)
+                .filter(|(_, e)| u64::from(e.owner) == owner);
+            let lines = owned.map(|(element, _)| book.line(supplier, element));
+            let sum: i128 = lines.map(|line| line.map_or(0, |line| line.amount)).sum();
+            let ore = (sum.abs() + 5_000_000) / 10_000_000 * sum.signum();
+            assert_eq!(read_packed(&packed).map(i128::from), Ok(ore));
+            seen.above += u64::from(ore > 0);
+            seen.below += u64::from(ore < 0);
+            seen.halves += u64::from(sum.rem_euclid(10_000_000) == 5_000_000);
+            seen.to_zero += u64::from(sum < 0 && ore == 0);
+        }
+    }
+}
+
+#[test]
+fn packed_sums_are_those_of_the_library() {
+    let month = Month {
+        year: 2024,
+        month: 3,
+    };
+    let mut state = 4;
+    let (mut seen, mut accepted) = (Seen::default(), 0);
+    for turn in 0..60 {
+        // The most elements now and then.
+        let elements = if turn % 10 == 0 {
+            64
+        } else {
+            1 + number(&mut state) % 12
+        };
+        let counts = Counts {
+            points: 1 + number(&mut state) % 4,
+            suppliers: 1 + number(&mut state) % 16,
+            elements,
+        };
+        let (elements, prices) = cheap_elements(counts.elements, &mut state);
+        let mut book = open(month, counts, &elements, &prices).expect("a right opening");
+        let mut proved = settlement_book::Book::open(month, counts, &elements, &prices)
+            .expect("a right opening");
+        compare_sums(&book, &proved, &elements, &mut seen);
+        let connected = |point| [5, 1, 0, 8840, point, 0, 8800, 0, 2];
+        let first = (0..counts.points).map(connected);
+        let others = (0..400).map(|_| random_message(counts, &elements, &mut state));
+        for fields in first.chain(others) {
+            let mut records = Vec::new();
+            let answer = message(&mut book, &fields, &mut records);
+            match proved.message(&fields.into()) {
+                Ok(expected) => {
+                    assert_eq!(answer, 0);
+                    let records = records.iter().map(Record::numbers);
+                    assert!(records.eq(expected.iter().map(settlement_book::Record::numbers)));
+                    accepted += 1;
+                    compare_sums(&book, &proved, &elements, &mut seen);
+                }
+                Err(question) => assert_eq!(answer, question.number()),
+            }
+        }
+    }
+    assert!(accepted > 10_000, "only {accepted} accepted");
+    assert!(seen.above > 10_000 && seen.below > 10_000, "{seen:?}");
+    assert!(seen.halves > 10_000 && seen.to_zero > 1_000, "{seen:?}");
+}
+
+#[test]
+fn packed_amounts_are_read_as_the_library_reads_them() {
+    let mut state = 5;
+    let (mut above, mut below, mut minus_zeros, mut refused) = (0, 0, 0, 0);
+    for turn in 0..300_000 {
+        let mut half_bytes = number(&mut state);
+        if turn % 4 != 0 {
+            // An amount, half of the time with another half-byte.
+            let limit = 10_u64.pow((number(&mut state) % 16) as u32);
+            let sign = ["c", "d"][number(&mut state) as usize % 2];
+            let digits = format!("{:015}{sign}", number(&mut state) % limit);
+            half_bytes = u64::from_str_radix(&digits, 16).expect("sixteen half-bytes");
+            if number(&mut state).is_multiple_of(2) {
+                half_bytes ^= (number(&mut state) % 16) << (4 * (number(&mut state) % 16));
+            }
+        }
+        let mut bytes = half_bytes.to_be_bytes().to_vec();
+        if turn % 16 == 1 {
+            // Some of them only, or zeros before or behind.
+            let longer = (u128::from(half_bytes) << 32).to_be_bytes();
+            let [first, length] = [7, 10].map(|limit| number(&mut state) as usize % limit);
+            bytes = longer[first..first + length].to_vec();
+        }
+        let found = read_packed(&bytes);
+        let expected = settlement_book::read_packed(&bytes);
+        let expected = expected.map_err(|question| question.number());
+        assert_eq!(found, expected, "{bytes:02x?}");
+        above += u64::from(found.is_ok_and(|ore| ore > 0));
+        below += u64::from(found.is_ok_and(|ore| ore < 0));
+        minus_zeros += u64::from(bytes == 0xd_u64.to_be_bytes());
+        refused += u64::from(found.is_err());
+    }
+    let many = [above, below, refused, 20 * minus_zeros];
+    assert!(many.into_iter().all(|count| count > 50_000), "{many:?}");
 }

@@ -5,7 +5,7 @@
 use measure::IMPLEMENTATIONS;
 use measure::inputs::{EMPTY_ROUNDS, Input, full, small, typical};
 use measure::settlement::{
-    DAY_QUERIES, Implementation, LINE_QUERIES, PERIOD_QUERIES, Timing, clock_seconds,
+    DAY_QUERIES, Implementation, LINE_QUERIES, PERIOD_QUERIES, SUM_QUERIES, Timing, clock_seconds,
 };
 use std::process::ExitCode;
 use std::time::Instant;
@@ -114,6 +114,7 @@ fn measure_book(input: &Input, chosen: &[&Implementation], seconds: f64) -> Resu
         (LINE_QUERIES, "query: line"),
         (PERIOD_QUERIES, "query: periods"),
         (DAY_QUERIES, "query: day without holder"),
+        (SUM_QUERIES, "query: packed sum"),
     ];
     for (row, title) in rows {
         let numbers: Vec<(u64, f64)> = measured.iter().map(|m| m.best.row(row)).collect();
