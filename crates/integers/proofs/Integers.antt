@@ -12,7 +12,6 @@ use mir.Syntax.{w64}
 use mir.Val.{SFits, Fits, toZ, ofZ}
 use mir.Facts.{toZ-pos, toZ-ofZ}
 use borrow.Author.Needs.{needs}
-use Rattle.integers.specs.Integers.{withSign}
 
 -- the positive part of a number and its negative part: one of them is 0, and the number is their difference
 abbrev pub posPart : ℤ → ℕ
@@ -146,18 +145,6 @@ zero-sub-abs x = ap natAbs (zero-sub x) ∙ neg-abs x
 
 pub neg-fits-unsigned : (x : ℤ) → natAbs x < 2 ^ 63 → Fits w64 (natAbs (pos 0 -ℤ x))
 neg-fits-unsigned x h = record { fits = omega (arith, zero-sub-abs x) }
-
-pub sign-abs : (z : ℤ) (n : ℕ) → natAbs (withSign z n) ≡ n
-sign-abs (pos m) n = refl
-sign-abs (negsuc m) n = neg-abs (pos n)
-
-pub sign-below : (z : ℤ) (n : ℕ) → ltZ z (pos 0) ≡ true → negℤ (pos n) ≡ withSign z n
-sign-below (pos m) n e = let h : m < 0 = ltb-true m 0 e in absurd (omega arith)
-sign-below (negsuc m) n e = refl
-
-pub sign-not-below : (z : ℤ) (n : ℕ) → ltZ z (pos 0) ≡ false → pos n ≡ withSign z n
-sign-not-below (pos m) n e = refl
-sign-not-below (negsuc m) n e = let z : _≡_ {A = ℕ} 0 1 = cc in absurd (omega arith)
 
 -- what `search` is handed at a need over signed numbers
 pub ruleset signed = (

@@ -1,4 +1,3 @@
 -- What the functions of this crate are stated by.
-pub mod Integers
 pub mod Sums
 pub mod Division

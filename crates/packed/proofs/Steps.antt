@@ -1,14 +1,14 @@
 -- The definitions of packed decimal, step by step as the loops go: a digit by the tenth part, half-bytes by their place, one digit more.
 use Prim.Native.Nat.{ℕ, zero, suc, _+_, _-_, _*_, _/_, _%_, _^_, _≤_, _<_}
 use mathlib.Core.Path.{_≡_, refl, ap, ap₂, _∙_}
-use mathlib.Core.Bool.{Bool, true, false, not, _&&_, _||_, cond, or-false}
+use mathlib.Core.Bool.{true, false, not, or-false}
 use mathlib.Core.List.{List, _++_, append-nil}
-use lib.IntN.{ℤ, pos, negsuc, negℤ, natAbs, _-ℤ_}
+use lib.IntN.{ℤ, pos, negsuc, negℤ, _-ℤ_}
 use lib.ListN.{length, getD, drop-of-length-le}
-use lib.Dec.{leb, ltb, eqb}
+use lib.Dec.{eqb}
 use lib.Signed.{ltZ}
-use borrow.Author.Tests.{lt-ltb, le-ltb, ltb-true, leb-true, eqb-true, eq-eqb, ne-eqb}
-use native.Mathlib.Nat.{pow-suc}
+use borrow.Author.Tests.{lt-ltb, le-ltb, ltb-true, eq-eqb, ne-eqb}
+use native.Mathlib.Nat.{pow-le-pow-right}
 use native.Mathlib.Numerals.{add-one}
 use native.Mathlib.Omega.{arith}
 use mir.Syntax.{w64}
@@ -17,10 +17,8 @@ use Rattle.integers.proofs.Integers.{sub-abs, zero-sub, cast-is, abs-back}
 use Rattle.rules.specs.Packed.{digitCount, signAbove, signBelow, digitAt, signOf, packedHalf, halfIn, digitsIn}
 use Rattle.rules.specs.Basics.{listTo}
 use Rattle.rules.specs.Packed.{packedSize, packedByte, packedBytes, signIn, digitsRight, signRight, isPacked, packedAmount}
-use Rattle.rules.proofs.Tests.{both}
-use Rattle.rules.proofs.Ranges.{all-at}
 use Rattle.rules.proofs.ListFronts.{front, front-is}
-use Rattle.rules.proofs.Packed.{digit-more, digits-small, digit-low}
+use Rattle.rules.proofs.Packed.{digit-more, digits-small, digit-low, packed-parts}
 
 -- ---- writing
 
@@ -76,29 +74,20 @@ pub digits-more : (bs : List ℕ) (n : ℕ) → digitsIn bs (n + 1) ≡ digitsIn
 unfolding digitsIn
 digits-more bs n = rw (add-one n)
 
-pow-rise : (i k : ℕ) → 10 ^ i ≤ 10 ^ (i + k)
-pow-rise i zero = let e : i + 0 ≡ i = omega arith in rw e (omega arith)
-pow-rise i (suc k) = let e : i + suc k ≡ suc (i + k) = omega arith in rw (e, pow-suc) (omega (arith, pow-rise i k))
-
 -- the digits before a place make a number of so many digits, and one more fits
 pub digits-below : (bs : List ℕ) → digitsRight bs ≡ true → (n : ℕ) → n < digitCount
     → (digitsIn bs n * 10 < 10 ^ digitCount) × (halfIn bs n ≤ 9)
-unfolding digitsRight
 digits-below bs h n l =
-    let low : (i : ℕ) → i < digitCount → halfIn bs i ≤ 9 = λ i k. leb-true _ _ (all-at _ digitCount h i k) in
+    let low = digit-low bs h in
     let a = digits-small bs n (λ i k. low i (omega arith)) in
-    let e : n + (14 - n) ≡ 14 = omega arith in
-    let b : 10 ^ n ≤ 10 ^ 14 = rw e at (pow-rise n (14 - n)) in
+    let k : n ≤ 14 = omega arith in
+    let b : 10 ^ n ≤ 10 ^ 14 = pow-le-pow-right (omega arith) k in
     (omega arith, low n l)
 
 -- ---- what is a packed number
 
-pub packed-parts : (bs : List ℕ) → isPacked bs ≡ true → (length bs ≡ packedSize) × (digitsRight bs ≡ true)
-unfolding isPacked
-packed-parts bs h = let k = both (eqb (length bs) packedSize) _ h in (eqb-true _ _ (k .0), both (digitsRight bs) _ (k .1) .0)
-
 pub packed-small : (bs : List ℕ) → isPacked bs ≡ true → digitsIn bs digitCount < 10 ^ digitCount
-packed-small bs h = digits-small bs digitCount (digit-low bs h)
+packed-small bs h = digits-small bs digitCount (digit-low bs (packed-parts bs h .digits))
 
 pub length-wrong : (bs : List ℕ) → (length bs ≡ packedSize → ⊥) → false ≡ isPacked bs
 unfolding isPacked

@@ -52,13 +52,21 @@ fn ask_line(book: Book, supplier: u64, element: u64) -> Answer
     }
 }
 
+// Where a supplier's lines begin, counted in lines.
+fn first_line(elements: u64, supplier: u64) -> usize
+    requires { ⌜ (1 ≤ supplier) × (supplier ≤ mostSuppliers) × (elements ≤ mostElements) ⌝ }
+    ensures { λ r. ⌜ r ≡ (supplier - 1) * elements ⌝ }
+{
+    ((supplier - 1) * elements) as usize
+}
+
 // Where a line's three numbers begin.
 fn line_place(elements: u64, supplier: u64, element: u64) -> usize
     requires { ⌜ (1 ≤ supplier) × (supplier ≤ mostSuppliers) ⌝ }
     requires { ⌜ (elements ≤ mostElements) × (element < elements) ⌝ }
     ensures { λ r. ⌜ r ≡ ((supplier - 1) * elements + element) * lineSize ⌝ }
 {
-    ((supplier - 1) * elements + element) as usize * LINE_SIZE
+    (first_line(elements, supplier) + element as usize) * LINE_SIZE
 }
 
 // The line of a supplier and an element: the quantity and the amount. Constant time.

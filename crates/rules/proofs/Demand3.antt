@@ -36,7 +36,7 @@ use Rattle.rules.specs.Packed.{ownedSum, ledgerSum, ore, ledgerAmount, d
 use Rattle.rules.specs.Fresh.{Fresh, heard, heardBody, hear, freshFacts}
 use Rattle.rules.specs.Claim.{Event, History, advance, advanceAll, begin, reached, total, balanceOf, lastRecord, LastBalance}
 use Rattle.rules.specs.Claim.{LastStands, Holds, reachedLimit, Kept, Demand3}
-use Rattle.rules.proofs.Tests.{cases, both}
+use Rattle.rules.proofs.Tests.{cases, both, none-some}
 use Rattle.rules.proofs.Ranges.{all-at, latest-high}
 use Rattle.rules.proofs.ValuesRight.{recorded-high}
 use Rattle.rules.proofs.LineLaws.{line-cong, line-but, pointLine-none, lines-total}
@@ -112,9 +112,6 @@ line-fresh : (o : Opening) (t : Tables) (f : Fresh) → Agree o t f → (m : Mea
     → line (termsOf o) (factsOf o t) m s e ≡ line (termsOf o) (freshFacts f) m s e
 unfolding termsOf
 line-fresh o t f a m s e = line-cong (termsOf o) (factsOf o t) (freshFacts f) m s e (λ p k. same-agree o t f a p k)
-
-none-some : (r : Record) → _≡_ {A = Option Record} none (some r) → ⊥
-none-some r l = let z : _≡_ {A = ℕ} 0 1 = cc in omega arith
 
 inv-begin : (w : World) → openingAnswer w ≡ 0 → Inv (w .opening) (begin (opened w))
 unfolding begin opened total lastRecord

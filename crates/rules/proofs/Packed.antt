@@ -1,16 +1,16 @@
 -- Laws of packed decimal: reading gives back what was packed, and eight bytes that are read are what packing gives. By recursion on the
 -- digits: a number is the number without its last digit, times ten, and that digit.
 use Prim.Native.Nat.{ℕ, zero, suc, _+_, _-_, _*_, _/_, _%_, _^_, _≤_, _<_}
-use mathlib.Core.Path.{_≡_, refl, sym, ap, ap₂, _∙_}
-use mathlib.Core.Bool.{Bool, true, false, not, _&&_, _||_, cond, false≢true}
+use mathlib.Core.Path.{_≡_, refl, sym, ap, _∙_}
+use mathlib.Core.Bool.{true, false, not, _&&_, _||_, cond, false≢true}
 use mathlib.Core.List.{List, [], _∷_}
 use mathlib.Core.Option.{Option, none, some}
 use lib.IntN.{ℤ, pos, negsuc, natAbs, negℤ, _-ℤ_, _*ℤ_}
 use lib.ListN.{length, getD}
 use lib.Seq.{ext-getD}
-use lib.Dec.{leb, ltb, eqb}
-use borrow.Author.Tests.{lt-ltb, le-ltb, le-leb, leb-true, eqb-true, eq-eqb, ne-eqb, ltb-true}
-use native.Mathlib.Nat.{pow-suc, mul-comm, div-one, div-div-eq-div-mul}
+use lib.Dec.{ltb, eqb}
+use borrow.Author.Tests.{lt-ltb, le-leb, leb-true, eqb-true, ne-eqb, ltb-true}
+use native.Mathlib.Nat.{pow-suc, pow-succ', div-one, div-eq-of-lt, div-div-eq-div-mul}
 use native.Mathlib.Omega.{arith}
 use Rattle.integers.specs.Division.{nearest}
 use Rattle.integers.specs.Sums.{sumTo}
@@ -19,24 +19,14 @@ use Rattle.rules.specs.Basics.{allTo, listTo, when}
 use Rattle.rules.specs.World.{Opening, ownerOf, gridCompany, energinet}
 use Rattle.rules.specs.Packed.{ownedSum, ore, inOre, packedSize, digitCount, signAbove, signBelow, fits, digitAt, signOf, packedHalf, packedByte}
 use Rattle.rules.specs.Packed.{packedBytes, packed, halfIn, digitsIn, signIn, digitsRight, signRight, isPacked, packedAmount, readPacked}
-use Rattle.rules.proofs.Tests.{tests, cases, both}
+use Rattle.rules.proofs.Tests.{tests, cases, both, none-some}
 use Rattle.rules.proofs.Ranges.{all-at, all-true, length-listTo, getD-listTo}
 
--- ---- a number without its last digits
+-- ---- digits
 
-unfoldable tenths : (n i : ℕ) → ℕ
-tenths n zero = n
-tenths n (suc i) = tenths (n / 10) i
-
-tenths-more : (n i : ℕ) → tenths n (suc i) ≡ tenths n i / 10
-unfolding tenths
-tenths-more n zero = refl
-tenths-more n (suc i) = tenths-more (n / 10) i
-
-tenths-none : (n i : ℕ) → n < 10 ^ i → tenths n i ≡ 0
-unfolding tenths
-tenths-none n zero h = omega arith
-tenths-none n (suc i) h = let l : n < 10 ^ i * 10 = rw pow-suc at h in tenths-none (n / 10) i (omega arith)
+-- a number without one digit more
+without-more : (n i : ℕ) → n / 10 ^ suc i ≡ n / 10 ^ i / 10
+without-more n i = ap (λ (m : ℕ). n / m) (pow-suc 10 i) ∙ sym (div-div-eq-div-mul n (10 ^ i) 10)
 
 -- the last digit, and those before it by the tenth part
 pub digit-last : (n : ℕ) → digitAt n 0 ≡ n % 10
@@ -46,16 +36,11 @@ digit-last n = ap (λ (m : ℕ). m % 10) (div-one n)
 pub digit-more : (n i : ℕ) → digitAt n (suc i) ≡ digitAt (n / 10) i
 unfolding digitAt
 digit-more n i =
-    ap (λ (m : ℕ). n / m % 10) (pow-suc 10 i ∙ mul-comm (10 ^ i) 10)
-    ∙ ap (λ (m : ℕ). m % 10) (sym (div-div-eq-div-mul n 10 (10 ^ i)))
-
-digit-tenths : (n i : ℕ) → digitAt n i ≡ tenths n i % 10
-unfolding tenths
-digit-tenths n zero = digit-last n
-digit-tenths n (suc i) = digit-more n i ∙ digit-tenths (n / 10) i
+    ap (λ (m : ℕ). n / m % 10) (pow-succ' 10 i) ∙ ap (λ (m : ℕ). m % 10) (sym (div-div-eq-div-mul n 10 (10 ^ i)))
 
 pub digit-le : (n i : ℕ) → digitAt n i ≤ 9
-digit-le n i = rw digit-tenths (omega arith)
+unfolding digitAt
+digit-le n i = omega arith
 
 -- ---- half-bytes and bytes
 
@@ -88,25 +73,23 @@ half-packed size sign h k l =
 
 -- a digit that is read is the last one of the number without those behind it
 half-digit : (size sign n i : ℕ) → sign ≤ 15 → n < digitCount → digitCount - 1 - n ≡ i
-    → halfIn (packedBytes size sign) n ≡ tenths size i % 10
-unfolding packedHalf
-half-digit size sign n i k l f =
-    half-packed size sign n k (omega arith) ∙ rw (lt-ltb n digitCount l, f) (digit-tenths size i)
+    → halfIn (packedBytes size sign) n ≡ size / 10 ^ i % 10
+unfolding packedHalf digitAt
+half-digit size sign n i k l f = half-packed size sign n k (omega arith) ∙ rw (lt-ltb n digitCount l, f)
 
 -- the first n digits are the number without the others
 digits-packed : (size sign n : ℕ) → size < 10 ^ digitCount → sign ≤ 15 → n ≤ digitCount
-    → digitsIn (packedBytes size sign) n ≡ tenths size (digitCount - n)
+    → digitsIn (packedBytes size sign) n ≡ size / 10 ^ (digitCount - n)
 unfolding digitsIn
-digits-packed size sign zero h k l = sym (tenths-none size digitCount h)
+digits-packed size sign zero h k l = sym (div-eq-of-lt h)
 digits-packed size sign (suc n) h k l =
     let i = digitCount - suc n in
     let e : digitCount - n ≡ suc i = omega arith in
     let half = half-digit size sign n i k (omega arith) (omega arith) in
-    rw (digits-packed size sign n h k (omega arith), e, tenths-more size i, half) (omega arith)
+    rw (digits-packed size sign n h k (omega arith), e, without-more size i, half) (omega arith)
 
 digits-back : (size sign : ℕ) → size < 10 ^ digitCount → sign ≤ 15 → digitsIn (packedBytes size sign) digitCount ≡ size
-unfolding tenths
-digits-back size sign h k = digits-packed size sign digitCount h k (omega arith)
+digits-back size sign h k = digits-packed size sign digitCount h k (omega arith) ∙ div-one size
 
 sign-back : (size sign : ℕ) → sign ≤ 15 → signIn (packedBytes size sign) ≡ sign
 unfolding packedHalf
@@ -183,27 +166,29 @@ signed (suc n) sign h = cases (eqb sign signBelow)
     (λ t. rw t (refl, sym (eqb-true sign signBelow t)))
     (λ t. rw t (refl, cases (eqb sign signAbove) (λ u. sym (eqb-true sign signAbove u)) (λ u. absurd (false≢true (rw (u, t) at h)))))
 
-none-some : (a : ℤ) → _≡_ {A = Option ℤ} none (some a) → ⊥
-none-some a l = let z : _≡_ {A = ℕ} 0 1 = cc in omega arith
-
-module _ (bs : List ℕ) (h : isPacked bs ≡ true) where
+-- what a packed number has
+pub record IsPacked (bs : List ℕ) : Type 0 where
   pub eight : length bs ≡ packedSize
-  unfolding isPacked
-  eight = eqb-true _ _ (both (eqb (length bs) packedSize) _ h .0)
+  pub digits : digitsRight bs ≡ true
+  pub sign : signRight bs ≡ true
 
-  pub digit-low : (i : ℕ) → i < digitCount → halfIn bs i ≤ 9
-  unfolding isPacked digitsRight
-  digit-low i l = leb-true _ _ (all-at _ digitCount (both (digitsRight bs) _ (both (eqb (length bs) packedSize) _ h .1) .0) i l)
+pub packed-parts : (bs : List ℕ) → isPacked bs ≡ true → IsPacked bs
+unfolding isPacked
+packed-parts bs h =
+    let k = both (eqb (length bs) packedSize) _ h in
+    let l = both (digitsRight bs) _ (k .1) in
+    record { eight = eqb-true _ _ (k .0); digits = l .0; sign = l .1 }
 
-  sign-right : signRight bs ≡ true
-  unfolding isPacked
-  sign-right = both (digitsRight bs) _ (both (eqb (length bs) packedSize) _ h .1) .1
+pub digit-low : (bs : List ℕ) → digitsRight bs ≡ true → (i : ℕ) → i < digitCount → halfIn bs i ≤ 9
+unfolding digitsRight
+digit-low bs h i l = leb-true _ _ (all-at _ digitCount h i l)
 
+module _ (bs : List ℕ) (h : IsPacked bs) where
   -- the half-bytes are those that packing gives
   half-read : (i : ℕ) → i < 16 → packedHalf (digitsIn bs digitCount) (signIn bs) i ≡ halfIn bs i
   unfolding packedHalf
   half-read i l = cases (ltb i digitCount)
-      (λ t. rw t (digit-read bs digitCount i digit-low (ltb-true i digitCount t)))
+      (λ t. rw t (digit-read bs digitCount i (digit-low bs (h .digits)) (ltb-true i digitCount t)))
       (λ t. let e : digitCount ≡ i = omega (arith, tests) in rw t (ap (halfIn bs) e))
 
   byte-read : (i : ℕ) → i < packedSize → getD bs i 0 ≡ packedByte (digitsIn bs digitCount) (signIn bs) i
@@ -214,17 +199,17 @@ module _ (bs : List ℕ) (h : isPacked bs ≡ true) where
 
   bytes-read : bs ≡ packedBytes (digitsIn bs digitCount) (signIn bs)
   unfolding packedBytes
-  bytes-read = ext-getD 0 bs _ (eight ∙ sym (length-listTo (packedByte (digitsIn bs digitCount) (signIn bs)) packedSize))
-      (λ i l. let k : i < packedSize = rw eight at l in
+  bytes-read = ext-getD 0 bs _ (h .eight ∙ sym (length-listTo (packedByte (digitsIn bs digitCount) (signIn bs)) packedSize))
+      (λ i l. let k : i < packedSize = rw (h .eight) at l in
       byte-read i k ∙ sym (getD-listTo (packedByte (digitsIn bs digitCount) (signIn bs)) packedSize i 0 k))
 
   amount-read : (natAbs (packedAmount bs) ≡ digitsIn bs digitCount) × (signOf (packedAmount bs) ≡ signIn bs)
   unfolding packedAmount signRight
-  amount-read = signed (digitsIn bs digitCount) (signIn bs) sign-right
+  amount-read = signed (digitsIn bs digitCount) (signIn bs) (h .sign)
 
   amount-fits : fits (packedAmount bs) ≡ true
   unfolding fits
-  amount-fits = rw (amount-read .0) (lt-ltb _ _ (digits-small bs digitCount digit-low))
+  amount-fits = rw (amount-read .0) (lt-ltb _ _ (digits-small bs digitCount (digit-low bs (h .digits))))
 
   bytes-packed : bs ≡ packed (packedAmount bs)
   bytes-packed = rw (amount-read .0, amount-read .1) bytes-read
@@ -234,7 +219,7 @@ pub packed-read : (bs : List ℕ) (a : ℤ) → readPacked bs ≡ some a → (bs
 unfolding readPacked when
 packed-read bs a h = cases (isPacked bs)
     (λ t. let e : packedAmount bs ≡ a = let z : some (packedAmount bs) ≡ some a = rw t at h in cc in
-    rw (← e) (bytes-packed bs t, amount-fits bs t))
+    let p = packed-parts bs t in rw (← e) (bytes-packed bs p, amount-fits bs p))
     (λ t. let z : _≡_ {A = Option ℤ} none (some a) = rw t at h in absurd (none-some a z))
 
 -- "every amount that fits has one form": the bytes that are read as it are those that packing gives, and no others

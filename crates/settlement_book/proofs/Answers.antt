@@ -1,5 +1,5 @@
 -- The answers of the inner functions, said in numbers.
-use Prim.Native.Nat.{ℕ}
+use Prim.Native.Nat.{ℕ, _≤_}
 use native.Mathlib.Omega.{arith}
 use mathlib.Core.Path.{_≡_, refl, sym, ap, subst, _∙_}
 use mathlib.Core.Logic.{_≢_}
@@ -17,14 +17,14 @@ use Rattle.rules.specs.declared.Book.{Book}
 use Rattle.rules.specs.declared.Fields.{Fields}
 use Rattle.rules.specs.declared.LineAnswer.{LineAnswer}
 use Rattle.rules.specs.Lines.{Measure, line}
-use Rattle.rules.specs.World.{World, bookOf, stored, termsOf, gridCompany, energinet}
+use Rattle.rules.specs.World.{World, bookOf, stored, termsOf}
 use Rattle.rules.specs.WellFormed.{withinLimits, question2}
 use Rattle.rules.specs.Opening.{openingAnswer, opened, afterOpening}
 use Rattle.rules.specs.Effects.{ask, askBook, answer, accepted, stepBy, step}
 use Rattle.rules.specs.Lent.{Lists, worldIn}
 use Rattle.rules.specs.Queries.{LineResult, lineNumber, lineQuery, lineNamed, lineRefused, periodsNumber, dayNumber}
 use Rattle.rules.specs.Queries.{DayResult, dayQuery, dayResultNumber}
-use Rattle.rules.specs.Packed.{ownedSum, inOre, packedSize, packed, isPacked, packedAmount, readPacked, sumNumber, sumWritten}
+use Rattle.rules.specs.Packed.{numbersRight, ownedSum, inOre, packedSize, packed, isPacked, packedAmount, readPacked, sumNumber, sumWritten}
 use Rattle.rules.specs.Fresh.{freshFacts}
 use Rattle.rules.specs.Claim.{Event, reached}
 use Rattle.rules.specs.Answers.{numberOf, lineResult}
@@ -247,27 +247,31 @@ limited-month w h = limits (w .opening) (both (withinLimits (w .opening)) _ (pas
 -- of a book reached from an opening, with eight bytes: the sum fits, and is fresh settlement's
 module _ (w : World) (s owner r : ℕ) (lent out : List ℕ) (h : r ≡ sumNumber w s owner (length lent)) (k : out ≡ sumWritten w s owner lent)
     (w₀ : World) (vs : List Event) (a : openingAnswer w₀ ≡ 0) (i : w ≡ reached w₀ vs .world)
-    (b : within 1 (w₀ .opening .suppliers) s ≡ true) (c : within gridCompany energinet owner ≡ true) (l : length lent ≡ packedSize) where
+    (b : numbersRight (w₀ .opening .suppliers) s owner ≡ true) (l : length lent ≡ packedSize) where
+  -- the supplier is one of the book
+  supplier : (1 ≤ s) × (s ≤ w₀ .opening .suppliers)
+  supplier = let k = both (within 1 (w₀ .opening .suppliers) s) _ b .0 in (within-low 1 _ s k, within-high 1 _ s k)
+
   sum-number : sumNumber (reached w₀ vs .world) s owner (length lent) ≡ 0
   unfolding sumNumber ask
   sum-number =
       let d = demand3 w₀ a vs in
-      let f = d .ledgerFits s owner (within-low 1 _ s b) (within-high 1 _ s b) in
-      rw (reached-opening w₀ a vs, b, c, l, f) (whole-asked (reached w₀ vs .world) (d .whole) 0)
+      let f = d .ledgerFits s owner (supplier .0) (supplier .1) in
+      rw (reached-opening w₀ a vs, b, l, f) (whole-asked (reached w₀ vs .world) (d .whole) 0)
 
   sum-packed : out ≡ packed (inOre (ownedSum (w₀ .opening) owner
       (λ e. line (termsOf (w₀ .opening)) (freshFacts (reached w₀ vs .fresh)) Measure.amount s e)))
   unfolding sumWritten
-  sum-packed = k ∙ rw (i, sum-number, demand3 w₀ a vs .ledgerFresh s owner (within-low 1 _ s b) (within-high 1 _ s b))
+  sum-packed = k ∙ rw (i, sum-number, demand3 w₀ a vs .ledgerFresh s owner (supplier .0) (supplier .1))
 
 pub packed-in : (w : World) (s owner r : ℕ) (lent out : List ℕ) → r ≡ sumNumber w s owner (length lent) → out ≡ sumWritten w s owner lent
     → PackedIn w s owner r lent out
 packed-in w s owner r lent out h k = record {
   number = h;
   bytes = k;
-  settled = λ w₀ vs a i b c l. (
-    h ∙ rw i (sum-number w s owner r lent out h k w₀ vs a i b c l),
-    sum-packed w s owner r lent out h k w₀ vs a i b c l,
+  settled = λ w₀ vs a i b l. (
+    h ∙ rw i (sum-number w s owner r lent out h k w₀ vs a i b l),
+    sum-packed w s owner r lent out h k w₀ vs a i b l,
   );
 }
 

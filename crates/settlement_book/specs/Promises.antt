@@ -8,13 +8,12 @@ use lib.IntN.{ℤ}
 use lib.ListN.{length}
 use lib.Dec.{eqb}
 use Rattle.rules.specs.declared.Fields.{Fields}
-use Rattle.rules.specs.Basics.{within}
 use Rattle.rules.specs.Lines.{Measure, line}
-use Rattle.rules.specs.World.{World, bookOf, termsOf, gridCompany, energinet, InBook}
+use Rattle.rules.specs.World.{World, bookOf, termsOf, InBook}
 use Rattle.rules.specs.Opening.{openingAnswer, afterOpening}
 use Rattle.rules.specs.Effects.{answer, step, recordsOf}
 use Rattle.rules.specs.Queries.{lineNumber, lineQuery, lineGiven, ownLine, periodsNumber, periodsRead, dayNumber, dayQuery}
-use Rattle.rules.specs.Packed.{ownedSum, inOre, packedSize, packed, readPacked, sumNumber, sumWritten, readNumber}
+use Rattle.rules.specs.Packed.{numbersRight, ownedSum, inOre, packedSize, packed, readPacked, sumNumber, sumWritten, readNumber}
 use Rattle.rules.specs.Fresh.{freshFacts}
 use Rattle.rules.specs.Claim.{Event, reached}
 use Rattle.ledger.specs.RecordNumbers.{numbersAfter}
@@ -64,7 +63,7 @@ pub record PackedIn (w : World) (supplier owner : ℕ) (r : ℕ) (lent out : Lis
   pub number : r ≡ sumNumber w supplier owner (length lent)
   pub bytes : out ≡ sumWritten w supplier owner lent
   pub settled : (w₀ : World) (vs : List Event) → openingAnswer w₀ ≡ 0 → w ≡ reached w₀ vs .world
-      → within 1 (w₀ .opening .suppliers) supplier ≡ true → within gridCompany energinet owner ≡ true → length lent ≡ packedSize
+      → numbersRight (w₀ .opening .suppliers) supplier owner ≡ true → length lent ≡ packedSize
       → (r ≡ 0) × (out ≡ packed (inOre (ownedSum (w₀ .opening) owner
       (λ e. line (termsOf (w₀ .opening)) (freshFacts (reached w₀ vs .fresh)) Measure.amount supplier e))))
 

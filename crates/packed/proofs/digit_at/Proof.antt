@@ -1,5 +1,4 @@
 -- `packed::digit_at` meets its contract: the digit sought is one of the number without the digits passed so far.
-use Prim.Native.Nat.{_-_}
 use mathlib.Core.Path.{_≡_, sym, ap, _∙_}
 use Rattle.rules.specs.Packed.{digitAt}
 use Rattle.rules.proofs.Packed.{digit-last}

@@ -1,9 +1,7 @@
 -- `packed::digits_in` meets its contract: the number of the digits passed so far, of which each is at most 9, so that it fits.
-use Prim.Native.Nat.{ℕ, _≤_, _<_, _-_, _*_, _^_}
-use mathlib.Core.Path.{_≡_, sym, ap, _∙_}
-use borrow.Author.Tests.{leb-true}
-use Rattle.rules.specs.Packed.{digitCount, halfIn, digitsIn, digitsRight}
-use Rattle.rules.proofs.Ranges.{all-at}
+use Prim.Native.Nat.{_≤_, _<_, _-_, _*_, _^_}
+use mathlib.Core.Path.{_≡_, ap, _∙_}
+use Rattle.rules.specs.Packed.{digitCount, halfIn, digitsIn}
 use Rattle.packed.proofs.Steps.{digits-none, digits-more, digits-below}
 use native.Mathlib.Omega.{arith}
 use borrow.Author.Needs.{needs}

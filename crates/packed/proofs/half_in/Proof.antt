@@ -1,7 +1,5 @@
 -- `packed::half_in` meets its contract: an even place is the upper half.
-use mathlib.Core.Path.{_≡_, sym, ap, _∙_}
 use Rattle.packed.proofs.Steps.{half-upper, half-lower}
-use native.Mathlib.Omega.{arith}
 use borrow.Author.Needs.{needs}
 use Rattle.packed.proofs.half_in.Statement.{statement}
 use Rattle.packed.proofs.half_in.Tie as tie

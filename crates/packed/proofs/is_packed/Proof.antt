@@ -1,10 +1,6 @@
 -- `packed::is_packed` meets its contract: the length, the digits, then the sign, and minus zero is none.
-use mathlib.Core.Path.{_≡_, sym, ap, _∙_}
-use mathlib.Core.Bool.{Bool, not}
-use lib.Dec.{eqb}
-use Rattle.rules.specs.Packed.{signAbove}
+use mathlib.Core.Path.{sym, _∙_}
 use Rattle.packed.proofs.Steps.{length-wrong, digit-wrong, below-packed, other-packed}
-use native.Mathlib.Omega.{arith}
 use borrow.Author.Needs.{needs}
 use Rattle.packed.proofs.is_packed.Statement.{statement}
 use Rattle.packed.proofs.is_packed.Tie as tie

@@ -1,12 +1,12 @@
 -- `packed::packed_amount` meets its contract: fifteen digits fit, and the sign decides.
-use mathlib.Core.Path.{_≡_, sym, ap, _∙_}
+use mathlib.Core.Path.{sym, ap, _∙_}
 use Prim.Native.Nat.{ℕ, _<_, _^_}
 use lib.IntN.{pos, negℤ}
 use Rattle.integers.proofs.Integers.{pos-fits, neg-fits, cast-is}
 use Rattle.rules.specs.Packed.{digitCount}
-use Rattle.packed.proofs.Steps.{packed-parts, packed-small, amount-below, amount-other, negated}
+use Rattle.rules.proofs.Packed.{packed-parts}
+use Rattle.packed.proofs.Steps.{packed-small, amount-below, amount-other, negated}
 use native.Mathlib.Omega.{arith}
-use borrow.Author.Needs.{needs}
 use Rattle.packed.proofs.packed_amount.Statement.{statement}
 use Rattle.packed.proofs.packed_amount.Tie as tie
 
@@ -19,7 +19,8 @@ size-small c = let s = start-of c in rw (c .digits-in .ensures) (packed-small (s
 digits-in-requires : tie.Need-digits-in-requires
 digits-in-requires c κs =
     let start : tie.Start = search in
-    packed-parts (start .args .bytes .now) (start .pre)
+    let p = packed-parts (start .args .bytes .now) (start .pre) in
+    (p .eight, p .digits)
 
 cast-size : tie.Need-cast-size
 cast-size c = pos-fits _ (omega (arith, size-small c))
@@ -27,7 +28,7 @@ cast-size c = pos-fits _ (omega (arith, size-small c))
 half-in-requires : tie.Need-half-in-requires
 half-in-requires c κs =
     let start : tie.Start = search in
-    omega (arith, packed-parts (start .args .bytes .now) (start .pre) .0)
+    omega (arith, packed-parts (start .args .bytes .now) (start .pre) .eight)
 
 sub-result : tie.Need-sub-result
 sub-result c =

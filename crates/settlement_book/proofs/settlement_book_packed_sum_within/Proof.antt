@@ -1,7 +1,5 @@
 -- The answer of the query, said as a number.
-use mathlib.Core.Path.{_≡_, sym, ap, subst, _∙_}
-use mathlib.Core.List.{List}
-use Prim.Native.Nat.{ℕ}
+use mathlib.Core.Path.{sym, ap, subst, _∙_}
 use lib.ListN.{length}
 use Rattle.rules.specs.declared.Book.{Book}
 use Rattle.rules.specs.Lent.{Lists, worldIn, lendData, lendLines}

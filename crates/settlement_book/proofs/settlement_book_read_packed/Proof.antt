@@ -1,8 +1,6 @@
 -- A packed number is read, and nothing else is.
-use mathlib.Core.Path.{_≡_, refl, sym, _∙_}
-use mathlib.Core.Bool.{true}
+use mathlib.Core.Path.{refl, sym, _∙_}
 use Rattle.integers.proofs.Integers.{back}
-use Rattle.rules.specs.Packed.{isPacked}
 use Rattle.settlement_book.proofs.Answers.{read-in, read-none}
 use borrow.Author.Needs.{needs}
 use Rattle.settlement_book.proofs.settlement_book_read_packed.Statement.{statement}
