@@ -207,7 +207,8 @@ uint64_t settlement_book_periods(
     uint64_t *count,
     uint64_t *read);
 
-/* The earliest day of the month on which the point counts but for a missing holder and has a link. Answers 0, 2 to 5 or 7.
+/* The earliest day of the month on which the point counts but for a missing holder and has a link. A point counts in the states connected
+ * and disconnected, and in a month up to December 2018 in every state, once it exists. Answers 0, 2 to 5 or 7.
  * At 0 *day is that day, or SETTLEMENT_BOOK_NO_DAY where there is none. */
 uint64_t settlement_book_day_without_holder(
     const uint64_t *book, size_t book_length,

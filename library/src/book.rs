@@ -367,7 +367,9 @@ impl Book {
     }
 
     /// The earliest day of the month on which the point counts but for a missing holder
-    /// and has a link, if there is one; or question 7.
+    /// and has a link, if there is one; or question 7. A point counts in the states
+    /// connected and disconnected, and in a month up to December 2018 in every state,
+    /// once it exists.
     #[inline]
     pub fn day_without_holder(&self, point: u64) -> Result<Option<u64>, Question> {
         let mut day = NO_DAY;

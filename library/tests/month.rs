@@ -552,20 +552,36 @@ impl Heard {
         }
     }
 
-    fn lacks_holder(&self, day: u64) -> bool {
+    fn lacks_holder(&self, day: u64, counting: &[u64]) -> bool {
         let on = |values: &BTreeMap<u64, u64>| {
             let latest = values.range(..=day).next_back();
             latest.map_or(0, |(_, value)| *value)
         };
         let covers = |(first, past): (&u64, &u64)| *first <= day && day < *past;
         on(&self.holders) == 0
-            && [CONNECTED, DISCONNECTED].contains(&on(&self.states))
+            && counting.contains(&on(&self.states))
             && self.periods.iter().flatten().any(covers)
     }
 }
 
-#[test]
-fn the_earliest_day_is_that_of_the_messages_heard() {
+/// The same message in another month of 31 days.
+fn moved(message: Fields, first: u64) -> Fields {
+    let moved = |day: u64| day.wrapping_add(first).wrapping_sub(FIRST);
+    let has_day = message.kind < 7;
+    Fields {
+        received: moved(message.received),
+        day: if has_day {
+            moved(message.day)
+        } else {
+            message.day
+        },
+        ..message
+    }
+}
+
+/// Random months of 31 days in which days count in these states: after each message the
+/// query names the earliest day that the messages heard so far give.
+fn assert_earliest_days(month: Month, first: u64, counting: &[u64]) {
     let elements = [
         element(1, 1, 0),
         element(2, 1, 0),
@@ -573,18 +589,19 @@ fn the_earliest_day_is_that_of_the_messages_heard() {
         element(1, 1, 1),
     ];
     let prices = prices(&[21_000_000, 150_000_000, -30_000, 761_000]);
+    let days = first..first + 31;
     let mut random = Random(11);
     let mut named = BTreeMap::new();
     for _ in 0..200 {
-        let mut book = Book::open(MARCH, counts(4, 3, 4), &elements, &prices).unwrap();
+        let mut book = Book::open(month, counts(4, 3, 4), &elements, &prices).unwrap();
         let mut heard = vec![Heard::default(); 4];
         for _ in 0..300 {
-            let message = random.message();
+            let message = moved(random.message(), first);
             if book.message(&message).is_ok() {
                 heard[message.point as usize].hear(&message);
             }
             for (point, heard) in heard.iter().enumerate() {
-                let day = (FIRST..=LAST).find(|day| heard.lacks_holder(*day));
+                let day = days.clone().find(|day| heard.lacks_holder(*day, counting));
                 assert_eq!(book.day_without_holder(point as u64), Ok(day));
                 *named.entry(day).or_insert(0) += 1;
             }
@@ -592,7 +609,27 @@ fn the_earliest_day_is_that_of_the_messages_heard() {
     }
     // Each day of the month is named often enough to have been tried.
     let times = |day| named.get(&Some(day)).copied().unwrap_or(0);
-    assert!((FIRST..=LAST).all(|day| times(day) > 100), "{named:?}");
+    assert!(days.clone().all(|day| times(day) > 100), "{named:?}");
+}
+
+#[test]
+fn the_earliest_day_is_that_of_the_messages_heard() {
+    assert_earliest_days(MARCH, FIRST, &[CONNECTED, DISCONNECTED]);
+}
+
+#[test]
+fn the_earliest_day_is_that_of_the_messages_heard_on_both_sides_of_2019() {
+    let every_state = [NEW, CONNECTED, DISCONNECTED, CLOSED];
+    let december = Month {
+        year: 2018,
+        month: 12,
+    };
+    let january = Month {
+        year: 2019,
+        month: 1,
+    };
+    assert_earliest_days(december, 6909, &every_state);
+    assert_earliest_days(january, 6940, &[CONNECTED, DISCONNECTED]);
 }
 
 /// A book of subscriptions on connected points, with these links, the last first: the

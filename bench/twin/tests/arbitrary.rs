@@ -1,20 +1,18 @@
 //! Nothing panics whatever the fields, balances are lines and sums of records, the largest
-//! amounts are right, and packed amounts are those of the proved library.
+//! amounts are right, and answers, records, lines, days without a holder and packed amounts
+//! are those of the proved library.
 
-use settlement_file::{Counts, Element, Month, output};
+mod generated;
+
+use generated::{MONTHS, cheap_elements, first_states, number, random_message};
+use settlement_book::Question;
+use settlement_file::{Counts, Element, Month, first_day, output};
 use std::collections::BTreeMap;
-use twin::{Book, Record, message, open, read_packed};
+use twin::{Book, Record, message, open, read_packed, two_parts};
 
-fn number(state: &mut u64) -> u64 {
-    *state = state.wrapping_add(0x9e37_79b9_7f4a_7c15);
-    let mut z = *state;
-    z = (z ^ (z >> 30)).wrapping_mul(0xbf58_476d_1ce4_e5b9);
-    z = (z ^ (z >> 27)).wrapping_mul(0x94d0_49bb_1331_11eb);
-    z ^ (z >> 31)
-}
-
-/// Mostly small numbers and edges, now and then any number.
-fn field(state: &mut u64) -> u64 {
+/// Mostly small numbers, days of a month that begins on `first` and edges, now and then any
+/// number.
+fn field(first: u64, state: &mut u64) -> u64 {
     let edges = [
         0,
         1,
@@ -28,7 +26,7 @@ fn field(state: &mut u64) -> u64 {
     ];
     match number(state) % 10 {
         0..=4 => number(state) % 4,
-        5 => 8826 + number(state) % 40,
+        5 => first + number(state) % 40,
         6 => number(state) % 2000,
         7 | 8 => edges[number(state) as usize % edges.len()],
         _ => number(state),
@@ -55,6 +53,27 @@ fn elements() -> (Vec<Element>, Vec<i64>) {
     (vec![element(1, 0), element(2, 0), element(3, 8)], prices)
 }
 
+/// Any fields, half of the time nearer to what is accepted, and every tenth time a round,
+/// which other numbers hardly ever are.
+fn any_message(first: u64, turn: u64, state: &mut u64) -> [u64; 9] {
+    if turn % 10 == 9 {
+        return [8, 2, 0, first + 14, 0, 0, 0, 0, 0];
+    }
+    let mut fields = [0; 9].map(|_: u64| field(first, state));
+    if number(state).is_multiple_of(2) {
+        fields[0] = 1 + number(state) % 8;
+        fields[1] = 1 + number(state) % 2;
+        fields[2] = 0;
+        fields[3] = first + 14;
+        fields[6] = (first + number(state) % 40).saturating_sub(6);
+        fields[7] = 0;
+        if fields[0] >= 4 {
+            fields[5] = 0;
+        }
+    }
+    fields
+}
+
 #[test]
 fn any_fields() {
     let (elements, prices) = elements();
@@ -63,37 +82,15 @@ fn any_fields() {
         suppliers: 2,
         elements: 3,
     };
-    let month = Month {
-        year: 2024,
-        month: 3,
-    };
     let mut state = 1;
     let (mut accepted, mut zeros, mut negatives) = (0, 0, 0);
-    for _ in 0..20 {
+    for month in MONTHS.into_iter().cycle().take(32) {
+        let first = first_day(month.year, month.month);
         let mut book = open(month, counts, &elements, &prices).expect("a right opening");
         let mut records: Vec<Record> = Vec::new();
         let mut sums: BTreeMap<(u8, u8), (i64, i128)> = BTreeMap::new();
         for turn in 0..50_000 {
-            let mut fields = [0; 9];
-            for place in &mut fields {
-                *place = field(&mut state);
-            }
-            if number(&mut state).is_multiple_of(2) {
-                // Nearer to what is accepted.
-                fields[0] = 1 + number(&mut state) % 8;
-                fields[1] = 1 + number(&mut state) % 2;
-                fields[2] = 0;
-                fields[3] = 8840;
-                fields[6] = 8820 + number(&mut state) % 40;
-                fields[7] = 0;
-                if fields[0] >= 4 {
-                    fields[5] = 0;
-                }
-            }
-            if turn % 10 == 9 {
-                // A round, which other numbers hardly ever are.
-                fields = [8, 2, 0, 8840, 0, 0, 0, 0, 0];
-            }
+            let fields = any_message(first, turn, &mut state);
             let before = everything(&book);
             let answer = message(&mut book, &fields, &mut records);
             assert!(answer == 0 || (6..=17).contains(&answer));
@@ -134,7 +131,7 @@ fn any_fields() {
 fn any_opening() {
     let mut state = 2;
     for _ in 0..100_000 {
-        let mut field = || field(&mut state);
+        let mut field = || field(0, &mut state);
         let month = Month {
             year: 2000 + field() % 101,
             month: field(),
@@ -252,50 +249,7 @@ fn a_record_in_numbers() {
     assert_eq!(record.numbers(), expected);
 }
 
-/// Elements at prices of which one Wh or one day is often half an øre, a quarter of that,
-/// or nearly half.
-fn cheap_elements(count: u64, state: &mut u64) -> (Vec<Element>, Vec<i64>) {
-    let mut prices = Vec::new();
-    let elements = (0..count).map(|_| {
-        let [kind, owner] = [3, 2].map(|limit| 1 + (number(state) % limit) as u8);
-        let any = number(state) as i64 % 9_999;
-        let price = [5_000, -5_000, 1_250, any][number(state) as usize % 4];
-        let is_hourly = kind == 3 && number(state).is_multiple_of(2);
-        prices.extend((0..24).map(|hour| match kind {
-            _ if hour > 0 && !is_hourly => 0,
-            1 => 31 * price,
-            2 => price,
-            _ => 1_000 * price + number(state) as i64 % 2,
-        }));
-        let marks = if is_hourly { 8 } else { 0 };
-        Element { kind, owner, marks }
-    });
-    (elements.collect(), prices)
-}
-
-/// A message of any kind, mostly accepted.
-fn random_message(counts: Counts, elements: &[Element], state: &mut u64) -> [u64; 9] {
-    let mut below = |limit| number(state) % limit;
-    let (point, element) = (below(counts.points), below(counts.elements));
-    let (day, hour) = (8820 + below(45), below(24));
-    let Element { kind, owner, .. } = elements[element as usize];
-    let (owner, quantity) = (owner.into(), if kind == 3 { 1 } else { 1 + below(3) });
-    let most_wh = if below(8) == 0 { 9_999_999 } else { 3 };
-    let told = |kind, role, element, day, hour, value| {
-        [kind, role, 0, 8840, point, element, day, hour, value]
-    };
-    match 1 + below(8) {
-        kind @ (1 | 3) => told(kind, owner, element, day, 0, quantity),
-        2 => told(2, owner, element, day, 0, 0),
-        4 => told(4, 2, 0, day, 0, below(counts.suppliers + 1)),
-        5 => told(5, 1, 0, day, 0, 1 + below(3)),
-        6 => told(6, 1, 0, day, hour, below(most_wh + 1)),
-        7 => told(7, 1, 0, 0, 0, below(2)),
-        _ => [8, 2, 0, 8840, 0, 0, 0, 0, 0],
-    }
-}
-
-/// How many sums there were of some sorts.
+/// How many sums there were of some sorts, and how many days without a holder.
 #[derive(Debug, Default)]
 struct Seen {
     above: u64,
@@ -303,6 +257,7 @@ struct Seen {
     halves: u64,
     /// Below zero, and zero when rounded.
     to_zero: u64,
+    days: u64,
 }
 
 /// Packed sums are those of the library and of the lines.
@@ -317,7 +272,7 @@ fn compare_sums(
         for owner in [0, 1, 2, 3, 257, u64::MAX] {
             let found = book.packed_sum(supplier, owner);
             let expected = proved.packed_sum(supplier, owner);
-            assert_eq!(found, expected.map_err(|question| question.number()));
+            assert_eq!(found, expected.map_err(Question::number));
             let Ok(packed) = found else {
                 continue;
             };
@@ -336,52 +291,76 @@ fn compare_sums(
     }
 }
 
-#[test]
-fn packed_sums_are_those_of_the_library() {
-    let month = Month {
-        year: 2024,
-        month: 3,
+/// Lines and days without a holder are those of the library.
+fn compare_lines_and_days(book: &Book, proved: &settlement_book::Book, seen: &mut Seen) {
+    let counts = proved.counts();
+    for supplier in 1..=counts.suppliers {
+        for element in 0..counts.elements {
+            let found = book.line(supplier, element);
+            let found = found.map(|line| (line.quantity, two_parts(line.amount)));
+            let expected = proved.line(supplier, element);
+            let expected = expected.map(|line| (line.quantity, (line.kroner, line.billionths)));
+            assert_eq!(found, expected.map_err(Question::number));
+        }
+    }
+    for point in 0..=counts.points {
+        let found = book.day_without_holder(point);
+        let expected = proved.day_without_holder(point).map_err(Question::number);
+        assert_eq!(found.map(|day| day.map(u64::from)), expected);
+        seen.days += u64::from(found.is_ok_and(|day| day.is_some()));
+    }
+}
+
+/// Takes messages of every kind, which must leave the same book as in the library. Answers
+/// how many were accepted.
+fn compare_books(month: Month, elements: u64, state: &mut u64, seen: &mut Seen) -> u64 {
+    let counts = Counts {
+        points: 1 + number(state) % 4,
+        suppliers: 1 + number(state) % 16,
+        elements,
     };
+    let (elements, prices) = cheap_elements(counts.elements, state);
+    let mut book = open(month, counts, &elements, &prices).expect("a right opening");
+    let mut proved =
+        settlement_book::Book::open(month, counts, &elements, &prices).expect("a right opening");
+    compare_sums(&book, &proved, &elements, seen);
+    let mut accepted = 0;
+    let others = (0..400).map(|_| random_message(month, counts, &elements, state));
+    for fields in first_states(month, counts).chain(others) {
+        let mut records = Vec::new();
+        let answer = message(&mut book, &fields, &mut records);
+        match proved.message(&fields.into()) {
+            Ok(expected) => {
+                assert_eq!(answer, 0);
+                let records = records.iter().map(Record::numbers);
+                assert!(records.eq(expected.iter().map(settlement_book::Record::numbers)));
+                accepted += 1;
+                compare_sums(&book, &proved, &elements, seen);
+                compare_lines_and_days(&book, &proved, seen);
+            }
+            Err(question) => assert_eq!(answer, question.number(), "{month:?} {fields:?}"),
+        }
+    }
+    accepted
+}
+
+#[test]
+fn books_are_those_of_the_library() {
     let mut state = 4;
     let (mut seen, mut accepted) = (Seen::default(), 0);
-    for turn in 0..60 {
-        // The most elements now and then.
-        let elements = if turn % 10 == 0 {
+    for (turn, month) in MONTHS.into_iter().cycle().take(72).enumerate() {
+        // The most elements now and then, in each of the months.
+        let elements = if turn % 9 == 0 {
             64
         } else {
             1 + number(&mut state) % 12
         };
-        let counts = Counts {
-            points: 1 + number(&mut state) % 4,
-            suppliers: 1 + number(&mut state) % 16,
-            elements,
-        };
-        let (elements, prices) = cheap_elements(counts.elements, &mut state);
-        let mut book = open(month, counts, &elements, &prices).expect("a right opening");
-        let mut proved = settlement_book::Book::open(month, counts, &elements, &prices)
-            .expect("a right opening");
-        compare_sums(&book, &proved, &elements, &mut seen);
-        let connected = |point| [5, 1, 0, 8840, point, 0, 8800, 0, 2];
-        let first = (0..counts.points).map(connected);
-        let others = (0..400).map(|_| random_message(counts, &elements, &mut state));
-        for fields in first.chain(others) {
-            let mut records = Vec::new();
-            let answer = message(&mut book, &fields, &mut records);
-            match proved.message(&fields.into()) {
-                Ok(expected) => {
-                    assert_eq!(answer, 0);
-                    let records = records.iter().map(Record::numbers);
-                    assert!(records.eq(expected.iter().map(settlement_book::Record::numbers)));
-                    accepted += 1;
-                    compare_sums(&book, &proved, &elements, &mut seen);
-                }
-                Err(question) => assert_eq!(answer, question.number()),
-            }
-        }
+        accepted += compare_books(month, elements, &mut state, &mut seen);
     }
     assert!(accepted > 10_000, "only {accepted} accepted");
     assert!(seen.above > 10_000 && seen.below > 10_000, "{seen:?}");
     assert!(seen.halves > 10_000 && seen.to_zero > 1_000, "{seen:?}");
+    assert!(seen.days > 1_000, "{seen:?}");
 }
 
 #[test]
@@ -408,8 +387,7 @@ fn packed_amounts_are_read_as_the_library_reads_them() {
             bytes = longer[first..first + length].to_vec();
         }
         let found = read_packed(&bytes);
-        let expected = settlement_book::read_packed(&bytes);
-        let expected = expected.map_err(|question| question.number());
+        let expected = settlement_book::read_packed(&bytes).map_err(Question::number);
         assert_eq!(found, expected, "{bytes:02x?}");
         above += u64::from(found.is_ok_and(|ore| ore > 0));
         below += u64::from(found.is_ok_and(|ore| ore < 0));

@@ -1,9 +1,9 @@
-// What the tables say of a point on a day: its holder, its state, who pays, up to which day a new link runs, and where the reading of an
-// hour stands.
+// What the tables say of a point on a day: its holder, its state, whether that counts, who pays, up to which day a new link runs, and
+// where the reading of an hour stands.
 ghost use mathlib.Core.Path.{_≡_};
 ghost use Prim.Native.Nat.{_<_};
 ghost use Rattle.rules.specs.Sizes.{mostPoints, endOfDays, holderSize, stateSize};
-ghost use Rattle.rules.specs.World.{countingState, holderOn, stateOn, readingAt};
+ghost use Rattle.rules.specs.World.{connectedOrDisconnected, everyState, countingStates, holderOn, stateOn, readingAt};
 ghost use Rattle.calendar.specs.Gregorian.{daysOfMonth, firstDay};
 ghost use Rattle.rules.specs.Whole.{Dated};
 ghost use Rattle.rules.specs.Lent.{Lists, openingIn, tablesIn, lendData, lendLinks, lendHolders, lendStates, was};
@@ -18,6 +18,8 @@ use rules::CONNECTED;
 use rules::DISCONNECTED;
 use rules::HOLDER_SIZE;
 use rules::HOUR_PLACES;
+use rules::LAST_YEAR_OF_EVERY_STATE;
+use rules::NOT_EXISTING;
 use rules::STATE_SIZE;
 use tables::link_end;
 use tables::value_on;
@@ -40,9 +42,10 @@ pub fn state_on(book: Book, states: &[u64], point: u64, day: u64) -> u64
     value_on(states, book.states as usize, STATE_SIZE, point, day)
 }
 
-// Does a day in that state count: connected or disconnected.
-pub fn is_counting(state: u64) -> bool
-    ensures { λ r. ⌜ r ≡ countingState state ⌝ }
+// ---- which states count
+
+fn is_connected_or_disconnected(state: u64) -> bool
+    ensures { λ r. ⌜ r ≡ connectedOrDisconnected state ⌝ }
 {
     if state == CONNECTED {
         true
@@ -51,11 +54,30 @@ pub fn is_counting(state: u64) -> bool
     }
 }
 
-// Who pays: the holder where the state counts, else 0.
-pub fn payer(state: u64, holder: u64) -> u64
-    ensures { λ r. ⌜ r ≡ payerOf state holder ⌝ }
+fn is_existing(state: u64) -> bool
+    ensures { λ r. ⌜ r ≡ everyState state ⌝ }
 {
-    if is_counting(state) { holder } else { 0 }
+    state != NOT_EXISTING
+}
+
+// Does a day in that state count, in a book of the year.
+pub fn is_counting(year: u64, state: u64) -> bool
+    ensures { λ r. ⌜ r ≡ countingStates year state ⌝ }
+{
+    if year <= LAST_YEAR_OF_EVERY_STATE {
+        is_existing(state)
+    } else {
+        is_connected_or_disconnected(state)
+    }
+}
+
+// ---- who pays
+
+// The holder where the state counts in the year, else 0.
+pub fn payer(year: u64, state: u64, holder: u64) -> u64
+    ensures { λ r. ⌜ r ≡ payerOf (countingStates year) state holder ⌝ }
+{
+    if is_counting(year, state) { holder } else { 0 }
 }
 
 // Who pays for a point on a day. Cost: logarithmic in the rows.
@@ -63,13 +85,16 @@ pub fn payer_on(book: Book, holders: &[u64], states: &[u64], point: u64, day: u6
     requires { ⌜ ValueRows holderSize (now holders) (book .holders) × ValueRows stateSize (now states) (book .states) ⌝ }
     requires { ⌜ (point < mostPoints) × (day < endOfDays) ⌝ }
     ensures { λ r. ⌜ ((o : Lists) →
-        r ≡ payerOn (tablesIn book (lendHolders (was holders) (lendStates (was states) o))) point day) ⌝ }
+        r ≡ payerOn (countingStates (book .year)) (tablesIn book (lendHolders (was holders) (lendStates (was states) o))) point day) ⌝ }
 {
     payer(
+        book.year,
         state_on(book, states, point, day),
         holder_on(book, holders, point, day),
     )
 }
+
+// ---- links
 
 // Up to which day a new link runs; 0 for any other message. Cost: logarithmic in the rows.
 pub fn link_ends(book: Book, element_data: &[u8], links: &[u64], body: Body) -> u64

@@ -15,7 +15,7 @@ use Rattle.rules.specs.declared.Book.{Book}
 use Rattle.rules.specs.Basics.{anyTo, firstFrom}
 use Rattle.rules.specs.Rows.{quantityOn}
 use Rattle.rules.specs.Sizes.{endOfDays}
-use Rattle.rules.specs.World.{Opening, Tables, monthFirst, monthDays, holderOn, stateOn, countingState, linkedOn}
+use Rattle.rules.specs.World.{Opening, Tables, monthFirst, monthDays, holderOn, stateOn, countingStates, linkedOn}
 use Rattle.rules.specs.Queries.{dayNumber, lacksHolder, earliestWithoutHolder}
 use Rattle.rules.proofs.Tests.{tests, cases}
 use Rattle.rules.specs.Lent.{Lists, worldIn, openingIn, tablesIn, lendRows}
@@ -64,12 +64,12 @@ module _ (f : ℕ → Bool) where
 -- ---- a day, by the holder, the state and the links
 
 module _ (o : Opening) (t : Tables) (p d : ℕ) where
-  pub by-links : holderOn t p d ≡ 0 → countingState (stateOn t p d) ≡ true
+  pub by-links : holderOn t p d ≡ 0 → countingStates (o .year) (stateOn t p d) ≡ true
       → anyTo (λ e. linkedOn t p e d) (o .elements) ≡ lacksHolder o t p d
   unfolding lacksHolder
   by-links a b = rw (a, b)
 
-  pub by-state : holderOn t p d ≡ 0 → countingState (stateOn t p d) ≡ false → false ≡ lacksHolder o t p d
+  pub by-state : holderOn t p d ≡ 0 → countingStates (o .year) (stateOn t p d) ≡ false → false ≡ lacksHolder o t p d
   unfolding lacksHolder
   by-state a b = rw (a, b)
 

@@ -210,7 +210,7 @@ fn lacks_holder(
         r ≡ lacksHolder (openingIn book t) (tablesIn book t) point day) ⌝ }
 {
     if holder_on(book, holders, point, day) == 0 {
-        if is_counting(state_on(book, states, point, day)) {
+        if is_counting(book.year, state_on(book, states, point, day)) {
             return has_link(book, links, point, day);
         }
     }

@@ -73,7 +73,7 @@ module _ (t : Terms) (f : Facts) (e : ℕ) (b : Bounded t f e) where
 
   owed-small : (m : Measure) (s p d : ℕ) → natAbs (owed t f m s p e d) ≤ dayLimit m
   unfolding owed
-  owed-small m s p d = cases (chargedTo f s p e d)
+  owed-small m s p d = cases (chargedTo t f s p e d)
       (λ h. rw h (charge-small m p d))
       (λ h. rw h (omega arith))
 

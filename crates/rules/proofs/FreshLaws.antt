@@ -9,7 +9,7 @@ use borrow.Author.Tests.{ne-eqb}
 use Rattle.rules.specs.declared.Body.{Body}
 use Rattle.rules.specs.declared.Body.the-variants.{Link, Stop, Quantity, Holder, State, Reading, Block, Round}
 use Rattle.rules.specs.Lines.{Terms}
-use Rattle.rules.specs.World.{Opening, Tables, hoursOf, termsOf, holderOn, stateOn, countingState, factsOf}
+use Rattle.rules.specs.World.{Opening, Tables, hoursOf, termsOf, holderOn, stateOn, factsOf}
 use Rattle.rules.specs.Questions.{pointOf}
 use Rattle.rules.specs.Fresh.{Fresh, here, relinked, heard, freshFacts}
 use Rattle.rules.proofs.Ranges.{latest-cong}
@@ -52,7 +52,7 @@ unfolding freshFacts
 same-unmoved t s v r u =
     record {
       holder = λ i k. latest-cong _ _ (t .first + i) (u .holder);
-      counts = λ i k. ap countingState (latest-cong _ _ (t .first + i) (u .state));
+      counts = λ i k. ap (t .counts) (latest-cong _ _ (t .first + i) (u .state));
       quantity = λ e i k. u .quantity e (t .first + i);
       energy = λ i h k l. u .reading (t .first + i) h;
     }
@@ -64,7 +64,7 @@ unfolding freshFacts factsOf holderOn stateOn termsOf hoursOf
 same-agree o t s a p j =
     record {
       holder = λ i k. latest-cong _ _ (termsOf o .first + i) (a .holder p);
-      counts = λ i k. ap countingState (latest-cong _ _ (termsOf o .first + i) (a .state p));
+      counts = λ i k. ap (termsOf o .counts) (latest-cong _ _ (termsOf o .first + i) (a .state p));
       quantity = λ e i k. a .quantity p e (termsOf o .first + i);
       energy = λ i h k l. a .reading p (termsOf o .first + i) h j (omega arith) (omega arith) l;
     }

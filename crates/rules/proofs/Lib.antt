@@ -11,6 +11,7 @@ pub mod Changes
 pub mod PeriodsRight
 pub mod ValuesRight
 pub mod LineLaws
+pub mod States
 pub mod Bounds
 pub mod Stored
 pub mod Rounds

@@ -1,4 +1,4 @@
--- Lines over any terms and facts.
+-- Lines over any terms and facts, and so whichever states count.
 use mathlib.Core.Path.{_≡_, refl, sym, ap, _∙_}
 use Prim.Native.Nat.{ℕ, zero, suc, _+_, _≤_, _<_}
 use mathlib.Core.Bool.{not, and-false}
@@ -11,10 +11,10 @@ use Rattle.integers.proofs.Sums.{sum-cong, sum-zero, sum-swap, sum-one}
 use Rattle.rules.proofs.Tests.{cases, eqb-ne}
 use Rattle.rules.specs.Lines.{Measure, Facts, Terms, energyOn, charge, chargedTo, owed, owedByHolder, pointLine, line}
 
--- two facts say the same of a point on the month's days
+-- two facts say the same of a point on the month's days, and of its state that much, whether it counts
 pub record SameAt (t : Terms) (f g : Facts) (p : ℕ) : Type 0 where
   pub holder : (i : ℕ) → i < t .days → f .holder p (t .first + i) ≡ g .holder p (t .first + i)
-  pub counts : (i : ℕ) → i < t .days → f .counts p (t .first + i) ≡ g .counts p (t .first + i)
+  pub counts : (i : ℕ) → i < t .days → t .counts (f .state p (t .first + i)) ≡ t .counts (g .state p (t .first + i))
   pub quantity : (e i : ℕ) → i < t .days → f .quantity p e (t .first + i) ≡ g .quantity p e (t .first + i)
   pub energy : (i h : ℕ) → i < t .days → h < t .hours (t .first + i) → f .energy p (t .first + i) h ≡ g .energy p (t .first + i) h
 

@@ -3,7 +3,7 @@
 -- none at first."
 -- Its state and what each message does to it stand here alone: no rows, no lines, nothing that was sent. It shares with the book which
 -- message the fields are (`understood`), the kinds and prices of elements and the month (`kindOf`, `termsOf`), that a recorded value holds
--- up to the next (`latest`), which states count (`countingState`), and the charge of a day with its sums (`charge`, `line` in Lines.antt).
+-- up to the next (`latest`), which states count (`countingStates`), and the charge of a day with its sums (`charge`, `line` in Lines.antt).
 use Prim.Native.Nat.{ℕ, _+_, _-_}
 use mathlib.Core.Bool.{Bool, false, not, _&&_, _||_, cond}
 use mathlib.Core.Option.{Option, none, some}
@@ -14,7 +14,7 @@ use Rattle.rules.specs.declared.Body.the-variants.{Link, Stop, Quantity,
 use Rattle.rules.specs.Basics.{latest, allTo}
 use Rattle.rules.specs.Sizes.{endOfDays}
 use Rattle.rules.specs.Lines.{Facts, fee}
-use Rattle.rules.specs.World.{Opening, kindOf, countingState}
+use Rattle.rules.specs.World.{Opening, kindOf}
 use Rattle.rules.specs.Messages.{understood, bodyIn}
 
 pub record Fresh : Type 0 where
@@ -104,7 +104,7 @@ unfoldable pub freshFacts : Fresh → Facts
 freshFacts s =
     record {
       holder = λ p d. latest (s .holder p) d;
-      counts = λ p d. countingState (latest (s .state p) d);
+      state = λ p d. latest (s .state p) d;
       quantity = s .quantity;
       energy = s .reading;
     }

@@ -9,7 +9,7 @@ use lib.Dec.{eqb, ltb}
 use Rattle.rules.specs.Basics.{within, anyTo, firstFrom}
 use Rattle.rules.specs.Rows.{periodPoint, periodElement, pairRows}
 use Rattle.rules.specs.Lines.{Facts, Measure, line}
-use Rattle.rules.specs.World.{Opening, Tables, World, rowsOf, termsOf, factsOf, holderOn, stateOn, countingState, linkedOn}
+use Rattle.rules.specs.World.{Opening, Tables, World, rowsOf, termsOf, factsOf, holderOn, stateOn, countingStates, linkedOn}
 use Rattle.rules.specs.World.{lineAt, amountOf, kronerOf, billionthsOf, monthFirst, monthDays}
 use Rattle.rules.specs.Effects.{ask, askBook}
 
@@ -96,7 +96,7 @@ dayNumber w p = askBook w (ask (ltb p (w .opening .points)) 7 0)
 -- a day "on which a given point counts but for a missing holder and has a link"
 unfoldable pub lacksHolder : Opening → Tables → (point day : ℕ) → Bool
 lacksHolder o t p d =
-    eqb (holderOn t p d) 0 && (countingState (stateOn t p d) && anyTo (λ e. linkedOn t p e d) (o .elements))
+    eqb (holderOn t p d) 0 && (countingStates (o .year) (stateOn t p d) && anyTo (λ e. linkedOn t p e d) (o .elements))
 
 -- "The query that names some such day shall name the earliest in the month."
 unfoldable pub earliestWithoutHolder : Opening → Tables → (point : ℕ) → Option ℕ

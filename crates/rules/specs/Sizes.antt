@@ -80,6 +80,10 @@ mostLineQuantity = 10000000000000
 abbrev pub mostLineKroner : ℕ
 mostLineKroner = 1000000000000
 
+-- request 8: "a month up to December 2018" is one of a year up to this
+abbrev pub lastYearOfEveryState : ℕ
+lastYearOfEveryState = 2018
+
 -- what a message changes a line by at most, in number or Wh and in billionths
 abbrev pub mostChange : ℕ
 mostChange = 1000000000000000000

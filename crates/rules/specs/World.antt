@@ -4,12 +4,13 @@ use mathlib.Core.Bool.{Bool, not, _||_, cond}
 use mathlib.Core.List.{List, _++_}
 use lib.IntN.{ℤ, pos, negsuc, _+ℤ_, _*ℤ_}
 use lib.ListN.{length, getD, take, replicate}
-use lib.Dec.{eqb}
+use lib.Dec.{eqb, leb}
 use Rattle.calendar.specs.Gregorian.{firstDay, daysOfMonth}
 use Rattle.rules.specs.declared.Book.{Book}
 use Rattle.rules.specs.Basics.{latest}
 use Rattle.rules.specs.Rows.{quantityOn, recordedOn}
 use Rattle.rules.specs.Sizes.{holderSize, stateSize, billion, elementSize, hourPlaces, lineSize, places, pricePlaces}
+use Rattle.rules.specs.Sizes.{lastYearOfEveryState}
 use Rattle.rules.specs.Lines.{Facts, Terms, Measure, tariff}
 
 -- ---- the parts of a world
@@ -143,28 +144,9 @@ hoursOf d = hourPlaces
 unfoldable pub priceOf : Opening → (element day hour : ℕ) → ℤ
 priceOf o e d h = getD (o .prices) (e * pricePlaces + cond (marked o hourly e) h 0) (pos 0)
 
-unfoldable pub termsOf : Opening → Terms
-termsOf o =
-    record {
-      first = monthFirst o;
-      days = monthDays o;
-      points = o .points;
-      kind = kindOf o;
-      price = priceOf o;
-      hours = hoursOf;
-    }
+-- ---- states
 
--- ---- what the tables say of a day
-
--- "Holder from D, up to the next recorded holder": 0 where nobody holds the point
-unfoldable pub holderOn : Tables → (point day : ℕ) → ℕ
-holderOn t p d = latest (recordedOn holderSize (rowsOf (t .holders)) p) d
-
--- "State from D, likewise: 1 new, 2 connected, 3 disconnected, 4 closed. Before its first state a point does not exist": 0
-unfoldable pub stateOn : Tables → (point day : ℕ) → ℕ
-stateOn t p d = latest (recordedOn stateSize (rowsOf (t .states)) p) d
-
--- these states
+-- "1 new, 2 connected, 3 disconnected, 4 closed. Before its first state a point does not exist": 0
 abbrev pub notExisting : ℕ
 notExisting = 0
 
@@ -180,9 +162,41 @@ disconnected = 3
 abbrev pub closed : ℕ
 closed = 4
 
--- "the state is connected or disconnected"
-unfoldable pub countingState : (state : ℕ) → Bool
-countingState s = eqb s connected || eqb s disconnected
+-- the two sets of states in which a day counts. "the state is connected or disconnected (H3 4.1.1)"
+unfoldable pub connectedOrDisconnected : (state : ℕ) → Bool
+connectedOrDisconnected s = eqb s connected || eqb s disconnected
+
+-- request 8: "every state, new and closed included, once the point exists"
+unfoldable pub everyState : (state : ℕ) → Bool
+everyState s = not (eqb s notExisting)
+
+-- the set for a book of the year: "A book for a month up to December 2018 shall count a day in every state"
+unfoldable pub countingStates : (year : ℕ) → (state : ℕ) → Bool
+countingStates year = cond (leb year lastYearOfEveryState) everyState connectedOrDisconnected
+
+-- ---- what the opening settles by
+
+unfoldable pub termsOf : Opening → Terms
+termsOf o =
+    record {
+      first = monthFirst o;
+      days = monthDays o;
+      points = o .points;
+      kind = kindOf o;
+      price = priceOf o;
+      hours = hoursOf;
+      counts = countingStates (o .year);
+    }
+
+-- ---- what the tables say of a day
+
+-- "Holder from D, up to the next recorded holder": 0 where nobody holds the point
+unfoldable pub holderOn : Tables → (point day : ℕ) → ℕ
+holderOn t p d = latest (recordedOn holderSize (rowsOf (t .holders)) p) d
+
+-- "State from D, likewise": 0 before the first
+unfoldable pub stateOn : Tables → (point day : ℕ) → ℕ
+stateOn t p d = latest (recordedOn stateSize (rowsOf (t .states)) p) d
 
 unfoldable pub linkedOn : Tables → (point element day : ℕ) → Bool
 linkedOn t p e d = not (eqb (quantityOn (rowsOf (t .links)) p e d) 0)
@@ -199,7 +213,7 @@ unfoldable pub factsOf : Opening → Tables → Facts
 factsOf o t =
     record {
       holder = holderOn t;
-      counts = λ p d. countingState (stateOn t p d);
+      state = stateOn t;
       quantity = quantityOn (rowsOf (t .links));
       energy = energyOf o t;
     }

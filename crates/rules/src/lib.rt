@@ -111,6 +111,9 @@ pub const DISCONNECTED: u64 = 3;
 
 pub const CLOSED: u64 = 4;
 
+// In a year up to this a day counts in every state (request 8).
+pub const LAST_YEAR_OF_EVERY_STATE: u64 = 2018;
+
 // ---- rows as packed words: how many values a field has room for, and the word that one of it stands for
 
 pub const ELEMENT_ROOM: u64 = 64;

@@ -1,6 +1,6 @@
 /* The functions of settlement_book.h, called from C: document 01's worked example (March 2024) with queries, balances, refusals, packed
- * amounts, and wrong lengths for every function. Prints a line for each expectation that fails and ends with status 1, or prints how many
- * held.
+ * amounts, and wrong lengths for every function; then the states that count in December 2018 and in January 2019. Prints a line for each
+ * expectation that fails and ends with status 1, or prints how many held.
  *
  * Everything that is lent lies in one block of memory with guard bytes around each part, so that comparing the block with a copy of it
  * says which parts a call has written, and that it wrote nothing outside them. */
@@ -36,6 +36,7 @@ static const int64_t prices[ELEMENTS * SETTLEMENT_BOOK_ELEMENT_PRICES] = {
 
 /* some of the book's numbers */
 #define YEAR_AT 0
+#define PERIODS_AT 5
 #define ROUND_AT 8
 #define FIRST_DAY_AT 9
 #define DAYS_AT 10
@@ -715,6 +716,102 @@ static void wrong_books(void) {
     call(MESSAGE, "the reading of the tests above", SETTLEMENT_BOOK_ACCEPTED, WRITTEN | ONLY(COUNT));
 }
 
+/* ---- the states that count: every one up to December 2018, connected and disconnected from January 2019 on */
+
+static const struct side {
+    uint64_t year, month;
+    /* the day before the first; both months have 31 days, as March has */
+    uint64_t before;
+    int every_state;
+} sides[] = {{2018, 12, 6908, 1}, {2019, 1, 6939, 0}};
+
+static void open_side(const struct side *side) {
+    set_month(side->year, side->month);
+    call(OPEN, "opening of another month", SETTLEMENT_BOOK_ACCEPTED, WRITTEN);
+}
+
+/* A message about point 0, received on the month's first day. */
+static void tell(const struct side *side, uint64_t kind, uint64_t role, uint64_t element, uint64_t day, uint64_t value, uint64_t answer) {
+    const uint64_t fields[] = {kind, role, 0, side->before + 1, 0, element, side->before + day, 0, value};
+    if (answer == SETTLEMENT_BOOK_ACCEPTED) {
+        accepted("message of another month", fields);
+    } else {
+        message("message of another month that is refused", fields, answer, NOTHING);
+    }
+}
+
+static void state_from(const struct side *side, uint64_t day, uint64_t state) { tell(side, 5, 1, 0, day, state, 0); }
+
+static void holder_from(const struct side *side, uint64_t day, uint64_t supplier) { tell(side, 4, 2, 0, day, supplier, 0); }
+
+/* So many days of the subscription, at 0.645161 kroner each. */
+static void days_are(uint64_t supplier, int64_t days) {
+    int64_t millionths = days * 645161;
+    line_is(supplier, 0, days, millionths / 1000000, millionths % 1000000 * 1000);
+}
+
+/* New from the 5th, connected and then disconnected from the 10th, closed from the 20th on; held by supplier 1, from the 25th by 2 and
+ * from the 30th by nobody. */
+static void states_in_turn(const struct side *side) {
+    const int every = side->every_state;
+    open_side(side);
+    state_from(side, 5, 1);
+    tell(side, 1, 1, 0, 4, 1, 11); /* before the first state */
+    tell(side, 1, 1, 0, 5, 1, SETTLEMENT_BOOK_ACCEPTED);
+    tell(side, 1, 1, 1, 5, 1, SETTLEMENT_BOOK_ACCEPTED);
+    tell(side, 6, 1, 0, 20, 1000, SETTLEMENT_BOOK_ACCEPTED);
+    day_is(every ? side->before + 5 : SETTLEMENT_BOOK_NO_DAY);
+    holder_from(side, 1, 1);
+    day_is(SETTLEMENT_BOOK_NO_DAY);
+    days_are(1, every ? 27 : 0);
+    state_from(side, 10, 2);
+    days_are(1, every ? 27 : 22);
+    line_is(1, 1, 1000, 0, 500000000);
+    state_from(side, 10, 3);
+    days_are(1, every ? 27 : 22);
+    state_from(side, 20, 4);
+    days_are(1, every ? 27 : 10);
+    line_is(1, 1, every ? 1000 : 0, 0, every ? 500000000 : 0);
+    tell(side, 3, 1, 0, 20, 2, 12); /* a quantity, a stop and a fee on a closed day */
+    tell(side, 2, 1, 0, 20, 0, 12);
+    tell(side, 1, 2, 2, 31, 1, 12);
+    holder_from(side, 25, 2);
+    days_are(1, every ? 20 : 10);
+    days_are(2, every ? 7 : 0);
+    holder_from(side, 30, 0);
+    days_are(2, every ? 5 : 0);
+    day_is(every ? side->before + 30 : SETTLEMENT_BOOK_NO_DAY);
+}
+
+/* A period that begins before the first state: no message leads there, but a book that is lent may have it. Up to 2018 its days
+ * count from the first state on, from 2019 on where the state is connected or disconnected. */
+static void linked_before_the_first_state(const struct side *side) {
+    open_side(side);
+    numbers(LINKS)[0] = (side->before + 1) << 26 | (uint64_t)SETTLEMENT_BOOK_NO_DAY << 10 | 1;
+    numbers(BOOK)[PERIODS_AT] = 1;
+    periods_at(0, 0, 1, 1);
+    period_is(0, 0, side->before + 1, SETTLEMENT_BOOK_NO_DAY, 1);
+    day_is(SETTLEMENT_BOOK_NO_DAY);
+    holder_from(side, 1, 1);
+    days_are(1, 0);
+    state_from(side, 10, 1);
+    days_are(1, side->every_state ? 22 : 0);
+    state_from(side, 20, 4);
+    days_are(1, side->every_state ? 22 : 0);
+    holder_from(side, 1, 0);
+    days_are(1, 0);
+    day_is(side->every_state ? side->before + 10 : SETTLEMENT_BOOK_NO_DAY);
+    state_from(side, 10, 2);
+    day_is(side->before + 10);
+}
+
+static void both_sides_of_2019(void) {
+    for (size_t i = 0; i < sizeof sides / sizeof sides[0]; i++) {
+        states_in_turn(&sides[i]);
+        linked_before_the_first_state(&sides[i]);
+    }
+}
+
 int main(void) {
     lend();
     opening();
@@ -727,6 +824,7 @@ int main(void) {
     packed_amounts();
     wrong_lengths();
     wrong_books();
+    both_sides_of_2019();
     free(memory);
     free(copy);
     if (failed > 0) {

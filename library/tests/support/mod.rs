@@ -1,5 +1,8 @@
 //! What the tests of the library share: March 2024, messages, and random ones.
 
+// Not every test file uses all of it.
+#![allow(dead_code)]
+
 use settlement_book::{Book, Counts, Element, Fields, Month};
 
 pub const MARCH: Month = Month {

@@ -8,4 +8,4 @@ pub mod calendar;
 pub mod file;
 pub mod run;
 
-pub use run::{Event, output, run};
+pub use run::{Event, output, run, run_counting};

@@ -1,7 +1,7 @@
 //! From the bytes of a file to what `settle` prints for it.
 
-use crate::book::{Book, Record, billionths, kroner};
-use crate::file::{Field, Reader};
+use crate::book::{Book, Record, States, StatesByYear, billionths, counting_states, kroner};
+use crate::file::{Element, Field, Month, Reader};
 use std::fmt;
 
 /// What happens in a run, in order. An accepted message prints nothing itself.
@@ -58,8 +58,14 @@ pub fn output(bytes: &[u8]) -> String {
 }
 
 pub fn run(bytes: &[u8]) -> Vec<Event> {
+    run_counting(bytes, counting_states)
+}
+
+/// The same where the year chooses the states that count in another way, to see
+/// which files tell the two ways apart.
+pub fn run_counting(bytes: &[u8], states_of: StatesByYear) -> Vec<Event> {
     let mut events = Vec::new();
-    if let Err(question) = run_into(bytes, &mut events) {
+    if let Err(question) = run_into(bytes, states_of, &mut events) {
         events.push(Event::Refused {
             message: 0,
             question,
@@ -69,11 +75,12 @@ pub fn run(bytes: &[u8]) -> Vec<Event> {
 }
 
 /// Runs to the end, or to the question from 1 to 4 that ends the run.
-fn run_into(bytes: &[u8], events: &mut Vec<Event>) -> Result<(), u8> {
+fn run_into(bytes: &[u8], states_of: StatesByYear, events: &mut Vec<Event>) -> Result<(), u8> {
     let mut reader = Reader::new(bytes);
     let Some(Ok(Field::Month(month))) = reader.next_field() else {
         return Err(1);
     };
+    let states = states_of(month.year);
     let mut elements = Vec::new();
     let mut open_book: Option<Book> = None;
     let mut message_number = 0;
@@ -93,7 +100,7 @@ fn run_into(bytes: &[u8], events: &mut Vec<Event>) -> Result<(), u8> {
             Ok(Field::Message(message)) => {
                 let mut book = match open_book.take() {
                     Some(book) => book,
-                    None => open(&month, &elements, events)?,
+                    None => open(&month, &elements, states, events)?,
                 };
                 message_number += 1;
                 match book.take_message(&message) {
@@ -111,17 +118,18 @@ fn run_into(bytes: &[u8], events: &mut Vec<Event>) -> Result<(), u8> {
         }
     }
     if open_book.is_none() {
-        open(&month, &elements, events)?;
+        open(&month, &elements, states, events)?;
     }
     Ok(())
 }
 
 fn open(
-    month: &crate::file::Month,
-    elements: &[crate::file::Element],
+    month: &Month,
+    elements: &[Element],
+    states: States,
     events: &mut Vec<Event>,
 ) -> Result<Book, u8> {
-    let book = Book::open(month, elements)?;
+    let book = Book::open(month, elements, states)?;
     events.push(Event::Book {
         year: month.year,
         month: month.month,

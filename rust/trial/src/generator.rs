@@ -1,12 +1,14 @@
 //! Random files with a bias to collisions: few days, few pairs of point and
-//! element, month edges, back-dated holders, deadlines' edges, and now and then
-//! a full table. Most are valid, some are damaged. The same seed gives the same
-//! bytes on every machine.
+//! element, month edges, back-dated holders, states that change under a link,
+//! deadlines' edges, and now and then a full table. Almost a third are of months
+//! up to December 2018. Most are valid, some are damaged. The same seed gives the
+//! same bytes on every machine.
 
 use crate::encode;
 use fresh::book::{
-    BLOCK, CLOSED, CONNECTED, DISCONNECTED, ENERGINET, FEE, GRID_COMPANY, HOLDER, LINK, NEW,
-    QUANTITY, READING, ROUND, STATE, STOP, SUBSCRIPTION, SUPPLIER, TARIFF,
+    BLOCK, CLOSED, CONNECTED, DISCONNECTED, ENERGINET, FEE, GRID_COMPANY, HOLDER,
+    LAST_YEAR_OF_EVERY_STATE, LINK, NEW, QUANTITY, READING, ROUND, STATE, STOP, SUBSCRIPTION,
+    SUPPLIER, TARIFF,
 };
 use fresh::calendar::{DAY_COUNT, days_in_month, first_day_of_month};
 use fresh::file::{Element, MARK_HOURLY, MARK_PASS_ON, MARK_TAX, MARK_VAT, Message, Month};
@@ -107,6 +109,8 @@ struct World {
     elements: Vec<Element>,
     /// The few days that messages meet on.
     meeting_days: Vec<i64>,
+    /// Up to 2019, the first year in which not every state counts: states change more.
+    states_matter: bool,
 }
 
 impl World {
@@ -141,6 +145,7 @@ impl World {
             suppliers: month.suppliers,
             elements,
             meeting_days,
+            states_matter: month.year <= LAST_YEAR_OF_EVERY_STATE + 1,
         }
     }
 
@@ -216,13 +221,17 @@ fn encode_all(month: &Month, elements: &[Element], messages: &[Message]) -> Vec<
 }
 
 fn random_month(r: &mut Random) -> Month {
-    let (year, month) = match r.below(10) {
+    let (year, month) = match r.below(20) {
         0 => (2000, 1),
-        1 => (2099, 12),
-        2 => (2000, 2),
-        3 => (2023, 2),
-        4 | 5 => (2024, 3),
-        _ => (r.between(2000, 2099) as u16, r.between(1, 12) as u8),
+        1 => (2000, 2),
+        2 | 3 => (2099, 12),
+        4 => (2023, 2),
+        5..=7 => (2024, 3),
+        // On both sides of the change of the states that count.
+        8..=10 => (LAST_YEAR_OF_EVERY_STATE, 12),
+        11..=13 => (LAST_YEAR_OF_EVERY_STATE + 1, 1),
+        14 => any_month(r, LAST_YEAR_OF_EVERY_STATE),
+        _ => any_month(r, 2099),
     };
     Month {
         year,
@@ -230,6 +239,11 @@ fn random_month(r: &mut Random) -> Month {
         points: r.pick(&[1, 1, 1, 2, 2, 3, 16]),
         suppliers: r.pick(&[1, 2, 2, 3, 3, 16]),
     }
+}
+
+fn any_month(r: &mut Random, last_year: u16) -> (u16, u8) {
+    let year = r.between(2000, i64::from(last_year));
+    (year as u16, r.between(1, 12) as u8)
 }
 
 fn random_element(r: &mut Random) -> Element {
@@ -326,7 +340,9 @@ fn set_up(r: &mut Random, world: &World, messages: &mut Vec<Message>) {
     let early = (world.first_day - r.pick(&[0, 1, 100, 1000, 1000])).max(0);
     for point in 0..world.points.min(4) {
         let from = if r.percent(80) { early } else { world.day(r) };
-        messages.push(state(world, point, from, CONNECTED));
+        let is_new = world.states_matter && r.percent(20);
+        let first_state = if is_new { NEW } else { CONNECTED };
+        messages.push(state(world, point, from, first_state));
         let from = if r.percent(70) { early } else { world.day(r) };
         let supplier = world.supplier(r);
         messages.push(holder(world, point, from, supplier));
@@ -346,6 +362,22 @@ fn set_up(r: &mut Random, world: &World, messages: &mut Vec<Message>) {
         for _ in 0..r.below(4) {
             messages.push(reading(r, world, point));
         }
+        let chance = if world.states_matter { 80 } else { 10 };
+        if r.percent(chance) {
+            change_state(r, world, point, messages);
+        }
+    }
+}
+
+/// Another state from a day of the month on, for good or for some days. The point's
+/// links go on meanwhile.
+fn change_state(r: &mut Random, world: &World, point: u16, messages: &mut Vec<Message>) {
+    let day = r.between(world.first_day, world.last_day);
+    let other = r.pick(&[NEW, NEW, DISCONNECTED, CLOSED, CLOSED]);
+    messages.push(state(world, point, day, other));
+    if r.percent(60) {
+        let back = r.between(day, world.last_day) + 1;
+        messages.push(state(world, point, back.min(LAST_DAY), CONNECTED));
     }
 }
 

@@ -1,7 +1,7 @@
 //! Counts of what happens in many runs, so that no question stays untried.
 
 use fresh::Event;
-use fresh::book::{ROUND, Record};
+use fresh::book::{LAST_YEAR_OF_EVERY_STATE, ROUND, Record, connected_or_disconnected};
 use std::collections::BTreeSet;
 use std::fmt;
 
@@ -9,6 +9,11 @@ use std::fmt;
 pub struct Survey {
     pub files: u64,
     pub opened: u64,
+    /// Opened books of months up to December 2018.
+    pub old_months: u64,
+    /// Of those, the files that print something else if only connected and
+    /// disconnected points count.
+    pub old_months_by_states: u64,
     /// By kind; place 0 is not used.
     pub accepted: [u64; 9],
     /// By question; refusals that end a run included.
@@ -44,7 +49,18 @@ struct Lines {
 }
 
 impl Survey {
-    pub fn add(&mut self, events: &[Event]) {
+    /// Runs a file and counts what happens.
+    pub fn add_file(&mut self, bytes: &[u8]) {
+        let events = fresh::run(bytes);
+        self.add(&events);
+        if is_of_old_month(&events) {
+            self.old_months += 1;
+            let narrower = fresh::run_counting(bytes, |_| connected_or_disconnected);
+            self.old_months_by_states += u64::from(narrower != events);
+        }
+    }
+
+    fn add(&mut self, events: &[Event]) {
         self.files += 1;
         let mut lines = Lines::default();
         for (place, event) in events.iter().enumerate() {
@@ -91,6 +107,10 @@ impl Survey {
     }
 }
 
+fn is_of_old_month(events: &[Event]) -> bool {
+    matches!(events.first(), Some(Event::Book { year, .. }) if *year <= LAST_YEAR_OF_EVERY_STATE)
+}
+
 /// The records at the front: those of a round, where it stands before them.
 fn records_from(events: &[Event]) -> Vec<&Record> {
     let records = events.iter().map_while(|event| match event {
@@ -103,6 +123,12 @@ fn records_from(events: &[Event]) -> Vec<&Record> {
 impl fmt::Display for Survey {
     fn fmt(&self, f: &mut fmt::Formatter<'_>) -> fmt::Result {
         writeln!(f, "files {} opened {}", self.files, self.opened)?;
+        writeln!(f, "months up to December 2018: {}", self.old_months)?;
+        writeln!(
+            f,
+            "of those, where days in other states than connected and disconnected are seen: {}",
+            self.old_months_by_states
+        )?;
         for (question, count) in self.refused.iter().enumerate().skip(1) {
             writeln!(f, "refused by question {question}: {count}")?;
         }

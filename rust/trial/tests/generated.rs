@@ -1,7 +1,13 @@
 //! Generated files run without a panic, try every question that a file can
-//! reach, add up to their balances, and are the same on every machine.
+//! reach and the states that count on both sides of 2019, add up to their
+//! balances, and are the same on every machine.
 
 use fresh::Event;
+use fresh::book::{
+    CLOSED, DISCONNECTED, LAST_YEAR_OF_EVERY_STATE, NEW, States, StatesByYear,
+    connected_or_disconnected, counting_states, every_state,
+};
+use fresh::file::{Field, Reader};
 use std::collections::BTreeMap;
 use trial::generator::{generate, generate_large};
 use trial::survey::Survey;
@@ -12,9 +18,12 @@ const QUESTIONS_OUT_OF_REACH: [usize; 3] = [3, 5, 18];
 fn every_question_is_tried() {
     let mut survey = Survey::default();
     for seed in 0..3_000 {
-        survey.add(&fresh::run(&generate(seed)));
+        survey.add_file(&generate(seed));
     }
     println!("{survey}");
+    // A tenth of all files and more, and half of those show which states count.
+    assert!(survey.old_months >= 300);
+    assert!(2 * survey.old_months_by_states >= survey.old_months);
     for question in 1..=18 {
         let count = survey.refused[question];
         if QUESTIONS_OUT_OF_REACH.contains(&question) {
@@ -37,6 +46,64 @@ fn every_question_is_tried() {
     assert!(survey.more_of_negative >= 500);
     assert!(survey.lines_without_record >= 500);
     assert!(survey.later_records >= 500);
+}
+
+fn every_state_but<const STATE: u8>(year: u16) -> States {
+    if year <= LAST_YEAR_OF_EVERY_STATE {
+        |state| state.is_some_and(|state| state != STATE)
+    } else {
+        connected_or_disconnected
+    }
+}
+
+/// A program that chooses the states in one of these ways prints something else for
+/// at least so many of a thousand files.
+#[test]
+fn wrong_states_are_seen() {
+    let slips: [(&str, StatesByYear, u32); 7] = [
+        ("two states always", |_| connected_or_disconnected, 100),
+        ("every state always", |_| every_state, 100),
+        (
+            "2018 as a later year",
+            |y| counting_states(y.saturating_add(1)),
+            40,
+        ),
+        (
+            "2019 as an earlier year",
+            |y| counting_states(y.saturating_sub(1)),
+            40,
+        ),
+        ("new left out", every_state_but::<NEW>, 50),
+        ("disconnected left out", every_state_but::<DISCONNECTED>, 40),
+        ("closed left out", every_state_but::<CLOSED>, 50),
+    ];
+    let files: Vec<Vec<u8>> = (0..1_000).map(generate).collect();
+    for (slip, states_of, least) in slips {
+        let differs = |file: &&Vec<u8>| fresh::run_counting(file, states_of) != fresh::run(file);
+        let count = files.iter().filter(differs).count() as u32;
+        println!("{slip}: {count}");
+        assert!(count >= least, "{slip}: {count}");
+    }
+}
+
+fn is_of_old_month(file: &[u8]) -> bool {
+    let month = Reader::new(file).next_field();
+    matches!(month, Some(Ok(Field::Month(m))) if m.year <= LAST_YEAR_OF_EVERY_STATE)
+}
+
+#[test]
+fn a_tenth_of_the_large_files_are_of_old_months() {
+    let old: Vec<u64> = (1..=120)
+        .filter(|seed| is_of_old_month(&generate_large(*seed)))
+        .collect();
+    println!("{} of 120", old.len());
+    assert!(old.len() >= 12);
+    // Every third is four times as large: two of the others are enough.
+    for seed in old.into_iter().filter(|seed| seed % 3 != 0).take(2) {
+        let file = generate_large(seed);
+        let narrower = fresh::run_counting(&file, |_| connected_or_disconnected);
+        assert!(narrower != fresh::run(&file), "seed {seed}");
+    }
 }
 
 /// Each printed balance is the sum of what was printed for its line so far, and its
@@ -143,5 +210,5 @@ fn the_same_seed_gives_the_same_bytes() {
             sum = (sum ^ u64::from(byte)).wrapping_mul(0x0000_0100_0000_01b3);
         }
     }
-    assert_eq!(sum, 0xcaec_6384_088a_87ed);
+    assert_eq!(sum, 0x2dab_7900_43cf_8172);
 }

@@ -1,10 +1,8 @@
 -- The state decides between the holder and nobody, as in the definition.
-use mathlib.Core.Path.{_≡_, ap₂, _∙_}
-use mathlib.Core.Bool.{cond}
-use Prim.Native.Nat.{ℕ}
+use mathlib.Core.Path.{ap₂, _∙_}
 use Rattle.rules.specs.Lent.{Lists, lendHolders, lendStates}
-use Rattle.rules.specs.World.{countingState}
-use Rattle.facts.specs.Payers.{payerOn}
+use Rattle.rules.specs.World.{countingStates}
+use Rattle.facts.specs.Payers.{payerOf, payerOn}
 use borrow.Author.Needs.{needs}
 use Rattle.facts.proofs.payer_on.Statement.{statement}
 use Rattle.facts.proofs.payer_on.Tie as tie
@@ -29,7 +27,8 @@ returns c o =
     let state : tie.After-state-on = search in
     let holder : tie.After-holder-on = search in
     c .payer .ensures
-    ∙ ap₂ (λ (s h : ℕ). cond (countingState s) h 0) (state .state-on .ensures (lent start o)) (holder .holder-on .ensures (lent start o))
+    ∙ ap₂ (payerOf (countingStates (start .args .book .year))) (state .state-on .ensures (lent start o))
+    (holder .holder-on .ensures (lent start o))
 
 pub payer-on-spec : {M : Type 1} → statement M
 payer-on-spec = tie.close (tie.spec state-on-requires holder-on-requires payer-requires returns)

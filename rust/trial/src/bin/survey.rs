@@ -1,5 +1,6 @@
-//! `survey FIRST COUNT` runs generated files and prints how often each question
-//! refused, what was accepted and how many records were written.
+//! `survey FIRST COUNT` runs generated files and prints how many are of months up to
+//! December 2018, how often each question refused, what was accepted and how many
+//! records were written.
 
 use std::process::ExitCode;
 
@@ -11,7 +12,7 @@ fn main() -> ExitCode {
     };
     let mut survey = trial::survey::Survey::default();
     for seed in *first..first.saturating_add(*count) {
-        survey.add(&fresh::run(&trial::generator::generate(seed)));
+        survey.add_file(&trial::generator::generate(seed));
     }
     print!("{survey}");
     ExitCode::SUCCESS
