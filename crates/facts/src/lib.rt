@@ -11,15 +11,17 @@ ghost use Rattle.tables.specs.Order.{LinkRows, ValueRows};
 ghost use Rattle.facts.specs.Links.{linkEnds, LinkFits};
 ghost use Rattle.facts.specs.Payers.{payerOf, payerOn};
 ghost use Rattle.facts.specs.Readings.{HourOfMonth};
+use pricing::is_within;
 use pricing::kind_of;
 use rules::Body;
 use rules::Book;
+use rules::CLOSED;
 use rules::CONNECTED;
 use rules::DISCONNECTED;
 use rules::HOLDER_SIZE;
 use rules::HOUR_PLACES;
 use rules::LAST_YEAR_OF_EVERY_STATE;
-use rules::NOT_EXISTING;
+use rules::NEW;
 use rules::STATE_SIZE;
 use tables::link_end;
 use tables::value_on;
@@ -44,6 +46,7 @@ pub fn state_on(book: Book, states: &[u64], point: u64, day: u64) -> u64
 
 // ---- which states count
 
+// The states that count from 2019 on.
 fn is_connected_or_disconnected(state: u64) -> bool
     ensures { λ r. ⌜ r ≡ connectedOrDisconnected state ⌝ }
 {
@@ -54,13 +57,14 @@ fn is_connected_or_disconnected(state: u64) -> bool
     }
 }
 
+// The states that count up to 2018: all four, which a point has once it exists.
 fn is_existing(state: u64) -> bool
     ensures { λ r. ⌜ r ≡ everyState state ⌝ }
 {
-    state != NOT_EXISTING
+    is_within(NEW, CLOSED, state)
 }
 
-// Does a day in that state count, in a book of the year.
+// Does a day in that state count, in a book of the year. Only here does the year choose.
 pub fn is_counting(year: u64, state: u64) -> bool
     ensures { λ r. ⌜ r ≡ countingStates year state ⌝ }
 {

@@ -1,11 +1,12 @@
 -- Which states count: the two sets, the year that chooses, and that up to 2018 a line asks of a state only whether the point exists.
 use mathlib.Core.Path.{_≡_, refl}
 use Prim.Native.Nat.{ℕ, _+_, _≤_, _<_}
-use mathlib.Core.Bool.{Bool, true, false, false≢true}
+use mathlib.Core.Bool.{Bool, true, false}
 use mathlib.Core.List.{List, [], _∷_}
 use lib.Dec.{eqb}
 use borrow.Author.Tests.{le-leb, lt-leb, eqb-true}
 use Rattle.rules.specs.Sizes.{lastYearOfEveryState}
+use Rattle.rules.specs.Basics.{within}
 use Rattle.rules.specs.Lines.{Measure, Facts, line}
 use Rattle.rules.specs.World.{Opening, termsOf, notExisting, newState, connected, disconnected, closed}
 use Rattle.rules.specs.World.{connectedOrDisconnected, everyState, countingStates}
@@ -27,15 +28,15 @@ each counts = counts notExisting ∷ counts newState ∷ counts connected ∷ co
 -- the sets of the last year of the one and of the first of the other
 pub states-known : (each (countingStates 2018) ≡ false ∷ true ∷ true ∷ true ∷ true ∷ [])
     × (each (countingStates 2019) ≡ false ∷ false ∷ true ∷ true ∷ false ∷ [])
-unfolding countingStates everyState connectedOrDisconnected
+unfolding countingStates everyState connectedOrDisconnected within
 states-known = (refl, refl)
 
 -- a state that counts from 2019 on counts up to 2018 too
 pub wider : (state : ℕ) → connectedOrDisconnected state ≡ true → everyState state ≡ true
-unfolding everyState connectedOrDisconnected
-wider state h = cases (eqb state notExisting)
-    (λ z. absurd (false≢true (rw (eqb-true state notExisting z) at h)))
-    (λ z. rw z)
+unfolding everyState connectedOrDisconnected within
+wider state h = cases (eqb state connected)
+    (λ c. rw (eqb-true state connected c))
+    (λ c. rw (eqb-true state disconnected (rw c at h)))
 
 -- facts with other states
 abbrev restated : Facts → (state : (point day : ℕ) → ℕ) → Facts

@@ -7,7 +7,7 @@ use lib.ListN.{length, getD, take, replicate}
 use lib.Dec.{eqb, leb}
 use Rattle.calendar.specs.Gregorian.{firstDay, daysOfMonth}
 use Rattle.rules.specs.declared.Book.{Book}
-use Rattle.rules.specs.Basics.{latest}
+use Rattle.rules.specs.Basics.{within, latest}
 use Rattle.rules.specs.Rows.{quantityOn, recordedOn}
 use Rattle.rules.specs.Sizes.{holderSize, stateSize, billion, elementSize, hourPlaces, lineSize, places, pricePlaces}
 use Rattle.rules.specs.Sizes.{lastYearOfEveryState}
@@ -168,7 +168,7 @@ connectedOrDisconnected s = eqb s connected || eqb s disconnected
 
 -- request 8: "every state, new and closed included, once the point exists"
 unfoldable pub everyState : (state : ℕ) → Bool
-everyState s = not (eqb s notExisting)
+everyState s = within newState closed s
 
 -- the set for a book of the year: "A book for a month up to December 2018 shall count a day in every state"
 unfoldable pub countingStates : (year : ℕ) → (state : ℕ) → Bool
