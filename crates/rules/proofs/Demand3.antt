@@ -23,7 +23,8 @@ use Rattle.rules.specs.declared.Body.the-variants.{Link, Stop, Quantity,
 use Rattle.rules.specs.declared.Message.{Message}
 use Rattle.rules.specs.declared.Record.{Record}
 use Rattle.rules.specs.Lines.{Measure, owedByHolder, line}
-use Rattle.rules.specs.World.{Opening, Tables, World, rowsOf, monthFirst, monthDays, termsOf, factsOf, stored, ownerOf, InBook}
+use Rattle.rules.specs.World.{Opening, Tables, World, rowsOf, monthFirst, monthDays, stored, ownerOf, InBook}
+use Rattle.rules.specs.World.{termsBy, termsOf, factsOf}
 use Rattle.rules.specs.WellFormed.{withinLimits, rowsFit, lineLimit, elementRight, valueRight, earlier, linesRight, holdersRight}
 use Rattle.rules.specs.WellFormed.{tablesRight, question2, question4, question5}
 use Rattle.rules.specs.Messages.{understood, bodyIn}
@@ -107,11 +108,12 @@ record Inv (o : Opening) (h : History) : Type 0 where
   balance : (s e : ℕ) → InBook (h .world .opening) s e → (r : Record) → lastRecord s e none (h .records) ≡ some r
       → balanceOf r ≡ storedLine (h .world .opening) (h .world .sent .totals) s e
 
--- the rules' line from the tables is fresh settlement's
-line-fresh : (o : Opening) (t : Tables) (f : Fresh) → Agree o t f → (m : Measure) (s e : ℕ)
-    → line (termsOf o) (factsOf o t) m s e ≡ line (termsOf o) (freshFacts f) m s e
-unfolding termsOf
-line-fresh o t f a m s e = line-cong (termsOf o) (factsOf o t) (freshFacts f) m s e (λ p k. same-agree o t f a p k)
+-- the rules' line from the tables is fresh settlement's, whichever states count
+line-fresh : (counts : ℕ → Bool) (o : Opening) (t : Tables) (f : Fresh) → Agree o t f → (m : Measure) (s e : ℕ)
+    → line (termsBy counts o) (factsOf o t) m s e ≡ line (termsBy counts o) (freshFacts f) m s e
+unfolding termsBy
+line-fresh counts o t f a m s e =
+    line-cong (termsBy counts o) (factsOf o t) (freshFacts f) m s e (λ p k. same-agree counts o t f a p k)
 
 inv-begin : (w : World) → openingAnswer w ≡ 0 → Inv (w .opening) (begin (opened w))
 unfolding begin opened total lastRecord
@@ -120,7 +122,7 @@ inv-begin w e = record {
   whole = begin-whole w (passed w e);
   agree = begin-agree w;
   lines = λ m s x b. begin-line w m s x ∙ sym
-      (line-fresh (w .opening) (opened w .position .tables) _ (begin-agree w) m s x
+      (line-fresh _ (w .opening) (opened w .position .tables) _ (begin-agree w) m s x
       ∙ line-nothing (termsOf (w .opening)) m s x (b .someone));
   sent = λ m s x b. sym (begin-sent w m s x);
   balance = λ s x b r l. absurd (none-some r l);
@@ -217,7 +219,7 @@ module _ (h : History) (o : Opening) (i : Inv o h) where
   -- a stored line is fresh settlement's
   stored-fresh : (m : Measure) (s e : ℕ) → InBook (h .world .opening) s e
       → stored (h .world .opening) (h .world .position .lines) m s e ≡ line (termsOf (h .world .opening)) (freshFacts (h .fresh)) m s e
-  stored-fresh m s e b = i .lines m s e b ∙ line-fresh (h .world .opening) (h .world .position .tables) (h .fresh) (i .agree) m s e
+  stored-fresh m s e b = i .lines m s e b ∙ line-fresh _ (h .world .opening) (h .world .position .tables) (h .fresh) (i .agree) m s e
 
   -- a line query answers the sums of the book's own tables, and so those of fresh settlement
   query-own : (s e : ℕ) → InBook (h .world .opening) s e → lineQuery (h .world) s e ≡ ownLine (h .world) s e
@@ -237,7 +239,7 @@ module _ (h : History) (o : Opening) (i : Inv o h) where
       → sumTo (λ s. named m (lineQuery (h .world) (suc s) e)) (h .world .opening .suppliers)
       ≡ sumTo (λ p. sumTo (λ d. owedByHolder (termsOf (h .world .opening)) (freshFacts (h .fresh)) m p e
       (monthFirst (h .world .opening) + d)) (monthDays (h .world .opening))) (h .world .opening .points)
-  unfolding termsOf
+  unfolding termsBy
   totals-of m e k =
       sum-cong _ _ (h .world .opening .suppliers)
       (λ s l. named-fresh m (suc s) e (record { someone = omega arith; supplier = l; element = k }))
@@ -248,7 +250,7 @@ module _ (h : History) (o : Opening) (i : Inv o h) where
   small-of m s e b =
       rw (named-stored (h .world) (i .whole) s e b m, i .lines m s e b)
       (line-small (termsOf (h .world .opening)) (factsOf (h .world .opening) (h .world .position .tables)) e
-      (bounded (h .world .opening) e (element-of (h .world) (i .whole) e (b .element)) (limits-of (h .world) (i .whole))
+      (bounded (h .world .opening) e (element-of (h .world) (i .whole) e (b .element)) _ (limits-of (h .world) (i .whole))
       (h .world .position .tables) (tables-of (h .world) (i .whole))) m s)
 
   -- what the ledger is sent: the sum of fresh settlement's lines, and no more than 64 times what a line is at most
@@ -281,7 +283,7 @@ module _ (h : History) (o : Opening) (i : Inv o h) where
   unfolding linesAfter movedLines
   lines-fit b r = lines-right (h .world .opening) _ (λ m s e k. rw (line-after (h .world) b (i .lines) m s e k)
       (le-trans (line-small (termsOf (h .world .opening)) (factsOf (h .world .opening) (tablesAfter (h .world) b)) e
-      (bounded (h .world .opening) e (element-of (h .world) (i .whole) e (k .element)) (limits-of (h .world) (i .whole))
+      (bounded (h .world .opening) e (element-of (h .world) (i .whole) e (k .element)) _ (limits-of (h .world) (i .whole))
       (tablesAfter (h .world) b)
       (unfold tablesAfter in told-right (h .world .opening) (h .world .position .tables) b r)) m s) (inside m)))
 
@@ -300,13 +302,13 @@ module _ (h : History) (o : Opening) (i : Inv o h) where
 -- an accepted message that a supplier holds the point of on no day, before or after, changes no line of the supplier's
 module _ (h : History) (o : Opening) (i : Inv o h) (v : Event) (s e : ℕ) (b : InBook (h .world .opening) s e)
     (before : Holds (h .world .opening) (h .fresh) s (v .fields .point) → ⊥) where
-  local-line : (x : Body) → accepted (h .world) (v .fields) (length (v .lent)) ≡ some x
+  local-line : (counts : ℕ → Bool) (x : Body) → accepted (h .world) (v .fields) (length (v .lent)) ≡ some x
       → (Holds (h .world .opening) (heard (h .world .opening) (h .fresh) x) s (v .fields .point) → ⊥)
-      → (m : Measure) → line (termsOf (h .world .opening)) (freshFacts (heard (h .world .opening) (h .fresh) x)) m s e ≡ line
-      (termsOf (h .world .opening)) (freshFacts (h .fresh)) m s e
-  unfolding termsOf
-  local-line x c z m =
-      let t = termsOf (h .world .opening) in
+      → (m : Measure) → line (termsBy counts (h .world .opening)) (freshFacts (heard (h .world .opening) (h .fresh) x)) m s e
+      ≡ line (termsBy counts (h .world .opening)) (freshFacts (h .fresh)) m s e
+  unfolding termsBy
+  local-line counts x c z m =
+      let t = termsBy counts (h .world .opening) in
       let k = taken (h .world) (v .fields) (length (v .lent)) x c in
       let now = heard (h .world .opening) (h .fresh) x in
       sym (line-but t (freshFacts (h .fresh)) (freshFacts now) m s e (v .fields .point)
@@ -322,7 +324,7 @@ module _ (h : History) (o : Opening) (i : Inv o h) (v : Event) (s e : ℕ) (b : 
   local-after none c z = refl
   local-after (some x) c z =
       query-fresh (after h (some x)) o (inv-after o h i v x c) s e b
-      ∙ ap₂ lineNamed (local-line x c z Measure.quantity) (local-line x c z Measure.amount)
+      ∙ ap₂ lineNamed (local-line _ x c z Measure.quantity) (local-line _ x c z Measure.amount)
       ∙ sym (query-fresh h o i s e b)
 
   local-of : (Holds (h .world .opening) (advance h v .fresh) s (v .fields .point) → ⊥)

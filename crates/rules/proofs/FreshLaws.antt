@@ -1,7 +1,7 @@
 -- What a message changes in fresh settlement, and that tables which agree with it give the same facts.
 use mathlib.Core.Path.{_≡_, refl, sym, ap}
 use Prim.Native.Nat.{ℕ, _+_, _<_}
-use mathlib.Core.Bool.{false}
+use mathlib.Core.Bool.{Bool, false}
 use mathlib.Core.Option.{some}
 use lib.Dec.{eqb}
 use native.Mathlib.Omega.{arith}
@@ -9,7 +9,7 @@ use borrow.Author.Tests.{ne-eqb}
 use Rattle.rules.specs.declared.Body.{Body}
 use Rattle.rules.specs.declared.Body.the-variants.{Link, Stop, Quantity, Holder, State, Reading, Block, Round}
 use Rattle.rules.specs.Lines.{Terms}
-use Rattle.rules.specs.World.{Opening, Tables, hoursOf, termsOf, holderOn, stateOn, factsOf}
+use Rattle.rules.specs.World.{Opening, Tables, monthFirst, hoursOf, termsBy, holderOn, stateOn, factsOf}
 use Rattle.rules.specs.Questions.{pointOf}
 use Rattle.rules.specs.Fresh.{Fresh, here, relinked, heard, freshFacts}
 use Rattle.rules.proofs.Ranges.{latest-cong}
@@ -57,14 +57,14 @@ same-unmoved t s v r u =
       energy = λ i h k l. u .reading (t .first + i) h;
     }
 
--- tables that agree with fresh settlement give its facts
-pub same-agree : (o : Opening) (t : Tables) (s : Fresh) → Agree o t s → (p : ℕ) → p < o .points
-    → SameAt (termsOf o) (factsOf o t) (freshFacts s) p
-unfolding freshFacts factsOf holderOn stateOn termsOf hoursOf
-same-agree o t s a p j =
+-- tables that agree with fresh settlement give its facts, whichever states count
+pub same-agree : (counts : ℕ → Bool) (o : Opening) (t : Tables) (s : Fresh) → Agree o t s → (p : ℕ) → p < o .points
+    → SameAt (termsBy counts o) (factsOf o t) (freshFacts s) p
+unfolding freshFacts factsOf holderOn stateOn termsBy hoursOf
+same-agree counts o t s a p j =
     record {
-      holder = λ i k. latest-cong _ _ (termsOf o .first + i) (a .holder p);
-      counts = λ i k. ap (termsOf o .counts) (latest-cong _ _ (termsOf o .first + i) (a .state p));
-      quantity = λ e i k. a .quantity p e (termsOf o .first + i);
-      energy = λ i h k l. a .reading p (termsOf o .first + i) h j (omega arith) (omega arith) l;
+      holder = λ i k. latest-cong _ _ (monthFirst o + i) (a .holder p);
+      counts = λ i k. ap counts (latest-cong _ _ (monthFirst o + i) (a .state p));
+      quantity = λ e i k. a .quantity p e (monthFirst o + i);
+      energy = λ i h k l. a .reading p (monthFirst o + i) h j (omega arith) (omega arith) l;
     }

@@ -2,7 +2,7 @@
 use mathlib.Core.Path.{_≡_, refl}
 use mathlib.Core.Logic.{_≢_}
 use Prim.Native.Nat.{ℕ, _+_, _*_, _≤_, _<_}
-use mathlib.Core.Bool.{true, not, _&&_, _||_}
+use mathlib.Core.Bool.{Bool, true, not, _&&_, _||_}
 use mathlib.Core.List.{List, [], _∷_}
 use lib.IntN.{pos, natAbs}
 use lib.ListN.{getD}
@@ -15,7 +15,7 @@ use Rattle.rules.specs.Sizes.{mostEnergy, mostPrice, mostQuantity, mostT
 use Rattle.rules.specs.Basics.{within, allTo, allIn}
 use Rattle.rules.specs.Rows.{covers, quantityOn}
 use Rattle.rules.specs.World.{Opening, Tables, rowsOf, monthDays, kindOf, ownerOf, marksOf, marked, passOn, tax, hourly, hoursOf}
-use Rattle.rules.specs.World.{priceOf, termsOf, readingAt, energyOf, factsOf}
+use Rattle.rules.specs.World.{priceOf, termsBy, readingAt, energyOf, factsOf}
 use Rattle.rules.specs.WellFormed.{priceLimit, priceSize, elementRight, periodRight}
 use Rattle.rules.proofs.Tests.{tests, cases, both}
 use Rattle.rules.proofs.Ranges.{within-low, within-high, all-at, all-getD}
@@ -73,9 +73,10 @@ module _ (op : Opening) (e : ℕ) (h : elementRight op e ≡ true) where
       let high = within-high 1 3 (kindOf op e) k in
       cases (eqb (kindOf op e) 3) (λ c. rw c (omega arith)) (λ c. absurd (omega (arith, tests)))
 
-  pub bounded : Limits op → (t : Tables) → TablesRight op t → Bounded (termsOf op) (factsOf op t) e
-  unfolding termsOf factsOf hoursOf energyOf monthDays
-  bounded l t r = record {
+  -- whichever states count
+  pub bounded : (counts : ℕ → Bool) → Limits op → (t : Tables) → TablesRight op t → Bounded (termsBy counts op) (factsOf op t) e
+  unfolding termsBy factsOf hoursOf energyOf monthDays
+  bounded counts l t r = record {
     quantity = λ p d. quantity-high op (rowsOf (t .links)) (links-each op (t .links) (r .links)) p e d;
     energy = λ p d i. leb-true _ _ (all-getD (λ x. leb x mostEnergy) (t .readings) (readingAt op p d i) 0 refl (r .readings));
     price = λ d. le-trans (price-at d 0 (omega arith)) limit-high;

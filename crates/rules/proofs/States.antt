@@ -8,7 +8,7 @@ use borrow.Author.Tests.{le-leb, lt-leb, eqb-true}
 use Rattle.rules.specs.Sizes.{lastYearOfEveryState}
 use Rattle.rules.specs.Basics.{within}
 use Rattle.rules.specs.Lines.{Measure, Facts, line}
-use Rattle.rules.specs.World.{Opening, termsOf, notExisting, newState, connected, disconnected, closed}
+use Rattle.rules.specs.World.{Opening, termsBy, termsOf, notExisting, newState, connected, disconnected, closed}
 use Rattle.rules.specs.World.{connectedOrDisconnected, everyState, countingStates}
 use Rattle.rules.proofs.Tests.{cases}
 use Rattle.rules.proofs.LineLaws.{line-cong}
@@ -50,7 +50,7 @@ existing-line o h f a b x m s e =
     line-cong (termsOf o) (restated f a) (restated f b) m s e (λ p k.
     record {
       holder = λ i l. refl;
-      counts = λ i l. unfold termsOf in rw (early (o .year) h) (x p (termsOf o .first + i));
+      counts = λ i l. unfold termsBy in rw (early (o .year) h) (x p (termsOf o .first + i));
       quantity = λ e i l. refl;
       energy = λ i j l n. refl;
     })

@@ -176,8 +176,9 @@ countingStates year = cond (leb year lastYearOfEveryState) everyState connectedO
 
 -- ---- what the opening settles by
 
-unfoldable pub termsOf : Opening → Terms
-termsOf o =
+-- whichever states count
+unfoldable pub termsBy : (counts : (state : ℕ) → Bool) → Opening → Terms
+termsBy counts o =
     record {
       first = monthFirst o;
       days = monthDays o;
@@ -185,8 +186,12 @@ termsOf o =
       kind = kindOf o;
       price = priceOf o;
       hours = hoursOf;
-      counts = countingStates (o .year);
+      counts = counts;
     }
+
+-- in a book's month, by the set of its year
+abbrev pub termsOf : Opening → Terms
+termsOf o = termsBy (countingStates (o .year)) o
 
 -- ---- what the tables say of a day
 
