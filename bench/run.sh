@@ -13,7 +13,7 @@ fresh=target/fresh/release/fresh-settle
 library=target/library/release/library-settle
 settle=../target/bin/settle
 
-[[ -f ../target/staticlib/libsettlement_book.a ]] || rt staticlib settlement_book >&2
+[[ -f ../target/staticlib/libsettlement_book.a ]] || ../library/build >&2
 [[ -x $settle ]] || ../program/build settle >&2
 cargo build --release --offline --quiet
 CARGO_TARGET_DIR=target/fresh cargo build --release --offline --quiet --manifest-path ../rust/Cargo.toml

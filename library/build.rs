@@ -15,7 +15,7 @@ fn main() {
     println!("cargo::rerun-if-changed={}", archive.display());
     if !archive.is_file() {
         println!(
-            "cargo::error={} is missing: run `rt staticlib settlement_book` in the repository, \
+            "cargo::error={} is missing: run `library/build` in the repository, \
              or set {FOLDER} to the folder that has it",
             archive.display()
         );

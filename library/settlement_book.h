@@ -1,5 +1,5 @@
-/* The settlement book for C: the functions of libsettlement_book.a, an archive for x86-64 Linux that `rt staticlib settlement_book`
- * writes to target/staticlib.
+/* The settlement book for C: the functions of libsettlement_book.a, an archive for x86-64 Linux that `library/build` writes to
+ * target/staticlib.
  *
  * What each function does is proved; crates/settlement_book/specs/Promises.antt says what it promises. This page is written by hand, and
  * library/tests/c/book.c tests the functions by it.

@@ -3,6 +3,7 @@
 camel case, and a dash only between two names.
 
 usage: tools/respell_names.py           at the top of the repository, once, after the kit's port.py; rewrites crates/ in place
+       tools/respell_names.py --modules after that, once: the lemmas that stand in a module of a file
        tools/respell_names.py --pages   rewrites the names in README.md, CONTRIBUTING.md and docs/ by the table that the first run kept
 
 The table of all names, old and new, goes to tools/respelled.tsv. Functions of src/, exported names, strings and what the check generates
@@ -91,6 +92,22 @@ def table():
     return {a: b for a, b in new.items() if a != b}, terms | lemmas, fields
 
 
+def in_modules():
+    """The dashed names that are declared inside a module of a file, but for fields, and each name that is declared at all."""
+    found, all_names = set(), set()
+    for path in files(".antt"):
+        in_record = False
+        for line in re.sub(r"(?m)(^|\s)--(\s.*|$)", "", read(path)).split("\n"):
+            if line and not line[0].isspace():
+                in_record = bool(NAMED.match(line))
+            at = re.match(r"^( *)(?:(?:pub|abbrev|unfoldable) +)*([^\s:(){}\-|.][^\s:(){}.]*) :(?: |$)", line)
+            if at:
+                all_names.add(at.group(2))
+                if at.group(1) and not in_record and "-" in at.group(2) and not path.endswith("Answers.antt"):
+                    found.add(at.group(2))
+    return found, all_names
+
+
 def respell(text, dashed, fields):
     """Each token of the code, by the table or from camel to snake case; of a comment, what stands in backticks and camel case. A projection
     of a generated record keeps its name."""
@@ -127,7 +144,21 @@ def main():
         for top in ("README.md", "CONTRIBUTING.md", "docs"):
             paths = [top] if os.path.isfile(top) else [os.path.join(d, f) for d, _, fs in os.walk(top) for f in fs if f.endswith(".md")]
             for path in paths:
-                write(path, re.sub(r"`[^`\n]+`", lambda m: TOKEN.sub(lambda w: new.get(w.group(0), w.group(0)), m.group(0)), read(path)))
+                write(path, re.sub(r"`[^`\n]+`", lambda m: "`" + TOKEN.sub(lambda w: new.get(w.group(0), w.group(0)), m.group(0)[1:-1]) + "`", read(path)))
+        return 0
+    if sys.argv[1:] == ["--modules"]:
+        terms, _, fields = declared()
+        found, all_names = in_modules()
+        known = terms | fields | WORDS
+        new = {}
+        for name in found:
+            turned = joined(name, known)
+            if turned != name:
+                new[name] = turned + "_lem" if turned in all_names else turned
+        for path in files(".antt"):
+            write(path, "\n".join(respell(l, new, set()) for l in read(path).split("\n")))
+        with open(TABLE, "a", encoding="utf-8") as f:
+            f.writelines(f"{a}\t{b}\n" for a, b in sorted(new.items()))
         return 0
     dashed, names, fields = table()
     functions = {f for path in files(".rt") for f in re.findall(r"\bfn +(\w+)", read(path))}

@@ -6,7 +6,7 @@
 //! From the repository's folder, for supplier 1 of the example month:
 //!
 //! ```text
-//! rt staticlib settlement_book
+//! library/build
 //! cargo run --offline --manifest-path rust/Cargo.toml --bin text-to-bytes < examples/march.txt > march
 //! cargo run --offline --manifest-path library/Cargo.toml --example ledger-file -- 1 < march > ledger
 //! cargo run --offline --manifest-path library/Cargo.toml --example ledger-file -- --kroner 1 < march

@@ -1,4 +1,6 @@
 // The months of the years 2000 to 2099 as days: day 0 is 1 January 2000, and day 36,524 is 31 December 2099.
+#![tactic(auto)]
+
 ghost use Rattle.std.specs.Prelude.{◌≡◌, ◌<◌};
 ghost use Rattle.calendar.specs.Gregorian.{listed_months, month_number, InRange};
 ghost use Rattle.calendar.specs.Gregorian.{days_of_month, first_of_month, first_day};

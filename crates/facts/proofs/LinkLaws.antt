@@ -1,17 +1,13 @@
 -- The end of a link: every message but a link has none, and a link of a message that has passed the questions before 17 has one within
 -- the days. By cases.
-use Prim.Native.Nat.{◌*◌, ◌<◌}
+use Prim.Native.Nat.{ℕ, ◌*◌, ◌<◌}
 use mathlib.Core.Path.{◌≡◌, refl}
-use mathlib.Core.List.{[], ◌∷◌}
 use lib.Dec.{eqb}
 use lib.ListN.{length}
 use native.Mathlib.Omega.{arith}
-use types.Run.{OneOf, miss}
-use denote.Enum.Declared.{tag_of}
 use Rattle.rules.specs.declared.Book.{Book}
 use Rattle.rules.specs.declared.Body.{Body}
 use Rattle.rules.specs.declared.Body.TheVariants.{Link, Stop, Quantity, Holder, State, Reading, Block, Round}
-use Rattle.rules.specs.contracts.Body.{the_type}
 use Rattle.rules.specs.Sizes.{day_room, element_size}
 use Rattle.rules.specs.Lines.{fee}
 use Rattle.rules.specs.World.{Opening, Tables, rows_of, kind_of}
@@ -21,12 +17,12 @@ use Rattle.rules.specs.Ready.{Ready}
 use Rattle.rules.specs.Lent.{Lists, opening_in, tables_in}
 use Rattle.rules.proofs.Tests.{cases}
 use Rattle.rules.proofs.Reach.{next-after}
-use Rattle.rules.proofs.Passed.{element-link, point-inside}
+use Rattle.rules.proofs.Passed.{element_link, point-inside}
 use Rattle.facts.specs.Links.{link_ends, LinkFits}
 
-pub no_link : (o : Opening) (t : Tables) (b : Body) → OneOf (1 ∷ 2 ∷ 3 ∷ 4 ∷ 5 ∷ 6 ∷ 7 ∷ []) (tag_of the_type b) → 0 ≡ link_ends o t b
+pub no_link : (o : Opening) (t : Tables) (b : Body) → ((p e d q : ℕ) → b ≡ Link p e d q → ⊥) → 0 ≡ link_ends o t b
 unfolding link_ends
-no_link o t (Link p e d q) h = absurd (miss (1 ∷ 2 ∷ 3 ∷ 4 ∷ 5 ∷ 6 ∷ 7 ∷ []) 0 tt h)
+no_link o t (Link p e d q) h = absurd (h p e d q refl)
 no_link o t (Stop p e d) h = refl
 no_link o t (Quantity p e d q) h = refl
 no_link o t (Holder p d v) h = refl
@@ -43,7 +39,7 @@ module _ (b : Book) (o : Lists) where
   unfolding point_of
   link_fits (Link p e d q) r l =
       let i = point-inside (opening_in b o) (tables_in b o) (Link p e d q) p refl r.point in
-      let j = (element-link (opening_in b o) (tables_in b o) p e d q r.element).0 in
+      let j = (element_link (opening_in b o) (tables_in b o) p e d q r.element).0 in
       let points = r.limited.points in
       let elements = r.limited.elements in
       let s = r.range in

@@ -1,11 +1,13 @@
 // What the tables say of a point on a day: its holder, its state, whether that counts, who pays, up to which day a new link runs, and
 // where the reading of an hour stands.
+#![tactic(auto)]
+
 ghost use Rattle.std.specs.Prelude.{◌≡◌, ◌<◌};
 ghost use Rattle.rules.specs.Sizes.{most_points, end_of_days, holder_size, state_size};
 ghost use Rattle.rules.specs.World.{connected_or_disconnected, every_state, counting_states, holder_on, state_on, reading_at};
 ghost use Rattle.calendar.specs.Gregorian.{days_of_month, first_day};
 ghost use Rattle.rules.specs.Whole.{Dated};
-ghost use Rattle.rules.specs.Lent.{Lists, opening_in, tables_in, lend_data, lend_links, lend_holders, lend_states, was};
+ghost use Rattle.rules.specs.Lent.{Lists, opening_in, tables_in, lend_data, lend_links, lend_holders, lend_states};
 ghost use Rattle.tables.specs.Order.{LinkRows, ValueRows};
 ghost use Rattle.facts.specs.Links.{link_ends, LinkFits};
 ghost use Rattle.facts.specs.Payers.{payer_of, payer_on};
@@ -22,7 +24,7 @@ use tables::{link_end, value_on};
 pub fn holder_on(book: Book, holders: &[u64], point: u64, day: u64) -> u64
     requires value_rows { ValueRows holder_size holders.now book.holders }
     requires point_lt_most_points { (point < most_points) × (day < end_of_days) }
-    ensures { (o : Lists) → result ≡ holder_on (tables_in book (lend_holders (was holders) o)) point day }
+    ensures { (o : Lists) → result ≡ holder_on (tables_in book (lend_holders holders.now o)) point day }
 {
     value_on(holders, book.holders as usize, HOLDER_SIZE, point, day)
 }
@@ -31,7 +33,7 @@ pub fn holder_on(book: Book, holders: &[u64], point: u64, day: u64) -> u64
 pub fn state_on(book: Book, states: &[u64], point: u64, day: u64) -> u64
     requires value_rows { ValueRows state_size states.now book.states }
     requires point_lt_most_points { (point < most_points) × (day < end_of_days) }
-    ensures { (o : Lists) → result ≡ state_on (tables_in book (lend_states (was states) o)) point day }
+    ensures { (o : Lists) → result ≡ state_on (tables_in book (lend_states states.now o)) point day }
 {
     value_on(states, book.states as usize, STATE_SIZE, point, day)
 }
@@ -81,7 +83,7 @@ pub fn payer_on(book: Book, holders: &[u64], states: &[u64], point: u64, day: u6
     requires value_rows { ValueRows holder_size holders.now book.holders × ValueRows state_size states.now book.states }
     requires point_lt_most_points { (point < most_points) × (day < end_of_days) }
     ensures { (o : Lists) →
-        result ≡ payer_on (counting_states book.year) (tables_in book (lend_holders (was holders) (lend_states (was states) o))) point day }
+        result ≡ payer_on (counting_states book.year) (tables_in book (lend_holders holders.now (lend_states states.now o))) point day }
 {
     payer(
         book.year,
@@ -97,7 +99,7 @@ pub fn link_ends(book: Book, element_data: &[u8], links: &[u64], body: Body) -> 
     requires link_rows { LinkRows links.now book.periods }
     requires link_fits { LinkFits element_data.now body }
     ensures { (o : Lists) →
-        let t = lend_data (was element_data) (lend_links (was links) o) in
+        let t = lend_data element_data.now (lend_links links.now o) in
         result ≡ link_ends (opening_in book t) (tables_in book t) body }
 {
     match body {

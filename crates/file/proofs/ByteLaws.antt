@@ -68,7 +68,8 @@ pub low_half : (n : ℕ) → n < 9223372036854775808 → twos_complement n ≡ p
 unfolding twos_complement
 low_half n h = rw (lt-ltb n 9223372036854775808 h)
 
-pub high_half : (n : ℕ) → 9223372036854775808 ≤ n → n ≤ 18446744073709551615 → negsuc 0 -ℤ pos (18446744073709551615 - n) ≡ twos_complement n
+pub high_half : (n : ℕ) → 9223372036854775808 ≤ n → n ≤ 18446744073709551615
+    → negsuc 0 -ℤ pos (18446744073709551615 - n) ≡ twos_complement n
 unfolding twos_complement
 high_half n h k =
     rw (le-ltb n 9223372036854775808 h)

@@ -73,6 +73,14 @@ some-digit n = cases (ltb n 10)
     (λ t. rw (decimal-small n (ltb-true n 10 t)) (omega arith))
     (λ t. rw (decimal_more n (ltb-false n 10 t), length-append) (omega arith))
 
+-- a tenth part has no more digits
+pub length_tenth : (n : ℕ) → length (decimal (n / 10)) ≤ length (decimal n)
+length_tenth n = cases (ltb n 10)
+    (λ t.
+    let small : n < 10 = ltb-true n 10 t in
+    rw (decimal-small (n / 10) (omega arith)) (omega (arith, some-digit n)))
+    (λ t. omega (arith, length_more n (ltb-false n 10 t)))
+
 -- ---- checks of the definition, which no proof cites
 
 -- "no leading zeros": the first digit of a positive number is 1 to 9

@@ -31,6 +31,6 @@ module _ (s : List ℕ) (at size : ℕ) (h : at + size ≤ length s) where
       rw (value-length, le-leb (11 + 8 * k) size l)
       (ap twos_complement (number_is (take size (drop at s)) (3 + 8 * k) 8 ∙ value-number (3 + 8 * k) 8 (omega arith)))
 
-  pub price-missing : (k : ℕ) → size < 11 + 8 * k → price_at (take size (drop at s)) k ≡ pos 0
+  pub price_missing : (k : ℕ) → size < 11 + 8 * k → price_at (take size (drop at s)) k ≡ pos 0
   unfolding price_at
-  price-missing k l = rw (value-length, lt-leb (11 + 8 * k) size l)
+  price_missing k l = rw (value-length, lt-leb (11 + 8 * k) size l)

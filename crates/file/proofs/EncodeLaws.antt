@@ -55,44 +55,46 @@ unfolding right_field
 right_is bytes phase tag n t l r = rw (t, l) r
 
 module _ (tag : ℕ) (value rest : List ℕ) where
-  tag-first : tag_of (encode_field tag value ++ rest) ≡ tag
+  tag_first : tag_of (encode_field tag value ++ rest) ≡ tag
   unfolding tag_of number_in bytes_number followed encode_field
-  tag-first = omega arith
+  tag_first = omega arith
 
   length-second : length value < 65536 → length_of (encode_field tag value ++ rest) ≡ length value
   unfolding length_of number_in encode_field number_bytes
   length-second h = bytes_back 2 (length value) h
 
-  field-length : length (encode_field tag value ++ rest) ≡ 3 + length value + length rest
+  field_length : length (encode_field tag value ++ rest) ≡ 3 + length value + length rest
   unfolding encode_field number_bytes
-  field-length =
+  field_length =
       length-append ((tag ∷ number_bytes 2 (length value)) ++ value) rest
       ∙ rw (length-append (tag ∷ number_bytes 2 (length value)) value) (omega arith)
 
-  pub field-decoded : (phase : Phase) → length value < 65536
+  pub field_decoded : (phase : Phase) → length value < 65536
       → header_right phase tag (length value) (marks_in (encode_field tag value ++ rest)) ≡ true
       → field_of (encode_field tag value ++ rest) phase ≡ field_named (encode_field tag value ++ rest)
-  field-decoded phase h r =
-      taken (encode_field tag value ++ rest) phase (rw (length-second h, field-length) (omega arith))
-      (right_is (encode_field tag value ++ rest) phase tag (length value) tag-first (length-second h) r)
+  field_decoded phase h r =
+      taken (encode_field tag value ++ rest) phase (rw (length-second h, field_length) (omega arith))
+      (right_is (encode_field tag value ++ rest) phase tag (length value) tag_first (length-second h) r)
 
 -- ---- the three fields
 
 pub month_decoded : (year month points suppliers : ℕ) (rest : List ℕ) → year < 65536 → month < 256 → points < 65536 → suppliers < 256
     → field_of (encode_month year month points suppliers ++ rest) Phase.Start ≡ Month year month points suppliers
-unfolding encode_month encode_field number_bytes header_right tag_allowed length_due field_named month_in number_in tag_of bytes_number followed
+unfolding encode_month encode_field number_bytes header_right tag_allowed length_due field_named month_in number_in tag_of bytes_number
+    followed
 month_decoded year month points suppliers rest y m p s =
-    field-decoded 1 (number_bytes 2 year ++ number_bytes 1 month ++ number_bytes 2 points ++ number_bytes 1 suppliers) rest Phase.Start
+    field_decoded 1 (number_bytes 2 year ++ number_bytes 1 month ++ number_bytes 2 points ++ number_bytes 1 suppliers) rest Phase.Start
     (omega arith) refl
     ∙ rw (bytes_back 2 year y, bytes_back 1 month m, bytes_back 2 points p, bytes_back 1 suppliers s)
 
 -- a message where one may come: behind the elements and behind messages
 pub message_decoded : (f : Fields) (rest : List ℕ) (phase : Phase) → tag_allowed phase 3 ≡ true → FieldsFit f
     → field_of (encode_message f ++ rest) phase ≡ Message f
-unfolding encode_message encode_field message_value number_bytes header_right length_due field_named message_fields number_in tag_of bytes_number
+unfolding encode_message encode_field message_value number_bytes header_right length_due field_named message_fields number_in tag_of
+    bytes_number
     followed
 message_decoded f rest phase a h =
-    field-decoded 3 (message_value f) rest phase (omega arith) (rw a)
+    field_decoded 3 (message_value f) rest phase (omega arith) (rw a)
     ∙ rw (
       bytes_back 1 f.kind h.kind,
       bytes_back 1 f.role h.role,
@@ -139,10 +141,10 @@ unfolding encode_element
 element_decoded kind owner marks ps rest h =
     let n : length (element_value kind owner marks ps) ≡ element_length marks = value-length kind owner marks ps ∙ due-length marks ps h in
     let s : length (element_value kind owner marks ps) < 65536 = omega (arith, (element_bounds marks).1) in
-    field-decoded 2 (element_value kind owner marks ps) rest Phase.Elements s
+    field_decoded 2 (element_value kind owner marks ps) rest Phase.Elements s
     (element-right (length (element_value kind owner marks ps)) _ marks n (marks_third kind owner marks ps rest))
     ∙ element-named (encode_field 2 (element_value kind owner marks ps) ++ rest) (element_length marks)
-    (tag-first 2 (element_value kind owner marks ps) rest) (length-second 2 (element_value kind owner marks ps) rest s ∙ n)
+    (tag_first 2 (element_value kind owner marks ps) rest) (length-second 2 (element_value kind owner marks ps) rest s ∙ n)
 
 -- the value is what stands there
 pub value_decoded : (kind owner marks : ℕ) (ps : List ℤ) (rest : List ℕ) → length ps ≡ cond (eqb (marks / 8 % 2) 1) price_places 1

@@ -1,5 +1,5 @@
--- Laws of one field: what each test on the way says of `fieldIn`, that the whole rest of the input decides as `field_of` does, and that what
--- was decided before the input's end does not depend on what follows. Everything is by cases on the tests, over the first six bytes.
+-- Laws of one field: what each test on the way says of `field_in`, that the whole rest of the input decides as `field_of` does, and that
+-- what was decided before the input's end does not depend on what follows. Everything is by cases on the tests, over the first six bytes.
 -- Assumes nothing.
 use Prim.Native.Nat.{ℕ, suc, ◌+◌, ◌-◌, ◌/◌, ◌%◌, ◌≤◌, ◌<◌}
 use mathlib.Core.Path.{◌≡◌, sym, ap, ◌∙◌}
@@ -58,16 +58,16 @@ module _ (bytes : List ℕ) (at tag n : ℕ) (h : RightField (drop at bytes) tag
   pub message-room : (tag ≡ 1 → ⊥) → (tag ≡ 2 → ⊥) → at + 22 ≤ length bytes
   message-room d e = let k : n ≡ 19 = h.due ∙ due-message tag _ d e in omega (arith, field_room)
 
--- ---- the tests of `fieldIn`
+-- ---- the tests of `field_in`
 
 module _ (bytes : List ℕ) (phase : Phase) (ended : Bool) where
-  pub in-short : length bytes < 6 → field_in bytes phase ended ≡ cut_off (length bytes) ended
+  pub in_short : length bytes < 6 → field_in bytes phase ended ≡ cut_off (length bytes) ended
   unfolding field_in
-  in-short h = rw (lt-ltb (length bytes) 6 h)
+  in_short h = rw (lt-ltb (length bytes) 6 h)
 
-  pub in-wrong : 6 ≤ length bytes → right_field phase bytes ≡ false → field_in bytes phase ended ≡ Broken
+  pub in_wrong : 6 ≤ length bytes → right_field phase bytes ≡ false → field_in bytes phase ended ≡ Broken
   unfolding field_in
-  in-wrong h w = rw (le-ltb (length bytes) 6 h, w)
+  in_wrong h w = rw (le-ltb (length bytes) 6 h, w)
 
   pub in_cut : 6 ≤ length bytes → right_field phase bytes ≡ true → length bytes < 3 + length_of bytes
       → field_in bytes phase ended ≡ cut_off (length bytes) ended
@@ -85,7 +85,7 @@ pub at-short : (s : List ℕ) (at : ℕ) (phase : Phase) (ended : Bool) → leng
     → cut_off (length s - at) ended ≡ field_in (drop at s) phase ended
 at-short s at phase ended h =
     let k : length (drop at s) < 6 = rw length-drop h in
-    rw (in-short (drop at s) phase ended k, length-drop at s)
+    rw (in_short (drop at s) phase ended k, length-drop at s)
 
 -- a header was read at a place with room for one
 pub record HeaderRead (s : List ℕ) (at tag n marks : ℕ) : Type 0 where
@@ -98,9 +98,9 @@ module _ {s : List ℕ} {at tag n marks : ℕ} (phase : Phase) (ended : Bool) (h
   enough : 6 ≤ length (drop at s)
   enough = rw length-drop h.have
 
-  tag-here : tag ≡ tag_of (drop at s)
+  tag_here : tag ≡ tag_of (drop at s)
   unfolding tag_of
-  tag-here = h.tagged ∙ ap (λ k. number_in s k 1) (omega arith) ∙ sym (number-from s at 0 1)
+  tag_here = h.tagged ∙ ap (λ k. number_in s k 1) (omega arith) ∙ sym (number-from s at 0 1)
 
   length-here : n ≡ length_of (drop at s)
   unfolding length_of
@@ -108,10 +108,10 @@ module _ {s : List ℕ} {at tag n marks : ℕ} (phase : Phase) (ended : Bool) (h
 
   right-here : right_field phase (drop at s) ≡ header_right phase tag n marks
   unfolding right_field marks_in
-  right-here = rw (← tag-here, ← length-here, number-from s at 5 1, ← h.marked)
+  right-here = rw (← tag_here, ← length-here, number-from s at 5 1, ← h.marked)
 
-  pub at-wrong : header_right phase tag n marks ≡ false → Broken ≡ field_in (drop at s) phase ended
-  at-wrong w = rw (in-wrong (drop at s) phase ended enough (right-here ∙ w))
+  pub at_wrong : header_right phase tag n marks ≡ false → Broken ≡ field_in (drop at s) phase ended
+  at_wrong w = rw (in_wrong (drop at s) phase ended enough (right-here ∙ w))
 
   pub at_cut : header_right phase tag n marks ≡ true → length s - at - 3 < n
       → cut_off (length s - at) ended ≡ field_in (drop at s) phase ended
@@ -125,7 +125,7 @@ module _ {s : List ℕ} {at tag n marks : ℕ} (phase : Phase) (ended : Bool) (h
   right-at w k =
       let l = h.have in
       record {
-        tagged = tag-here;
+        tagged = tag_here;
         sized = length-here;
         due = right-length phase tag n marks w ∙ ap (λ m. length_due tag m) (h.marked ∙ sym (number-from s at 5 1));
         whole = rw (length-drop at s) (omega arith);
@@ -135,7 +135,7 @@ module _ {s : List ℕ} {at tag n marks : ℕ} (phase : Phase) (ended : Bool) (h
   at-whole w k =
       let l = h.have in in_whole (drop at s) phase ended enough (right-here ∙ w) (rw (length-drop at s, ← length-here) (omega arith))
 
--- ---- all that is left of the input: `fieldIn` decides as `field_of` does
+-- ---- all that is left of the input: `field_in` decides as `field_of` does
 
 -- a field that is whole and right has at least nine bytes
 whole_enough : (bytes : List ℕ) (phase : Phase) → length bytes < 6 → (whole_field bytes && right_field phase bytes) ≡ false
@@ -158,18 +158,18 @@ whole_is bytes t e = e
 
 pub whole-rest : (bytes : List ℕ) (phase : Phase) → field_in bytes phase true ≡ field_of bytes phase
 unfolding field_of cut_off
-whole-rest [] phase = in-short [] phase true (omega arith)
+whole-rest [] phase = in_short [] phase true (omega arith)
 whole-rest (b ∷ bytes) phase = cases (ltb (length (b ∷ bytes)) 6)
     (λ t.
     let h : length (b ∷ bytes) < 6 = ltb-true (length (b ∷ bytes)) 6 t in
-    rw (whole_enough (b ∷ bytes) phase h) (in-short (b ∷ bytes) phase true h ∙ ended-cons b bytes phase))
+    rw (whole_enough (b ∷ bytes) phase h) (in_short (b ∷ bytes) phase true h ∙ ended-cons b bytes phase))
     (λ t.
     let h : 6 ≤ length (b ∷ bytes) = ltb-false (length (b ∷ bytes)) 6 t in
     cases (right_field phase (b ∷ bytes))
     (λ r. cases (leb (3 + length_of (b ∷ bytes)) (length (b ∷ bytes)))
     (λ w. rw (whole_is (b ∷ bytes) true w, r) (in_whole (b ∷ bytes) phase true h r (leb-true _ _ w)))
     (λ w. rw (whole_is (b ∷ bytes) false w) (in_cut (b ∷ bytes) phase true h r (leb-false _ _ w) ∙ ended-cons b bytes phase)))
-    (λ r. rw (r, and-false (whole_field (b ∷ bytes))) (in-wrong (b ∷ bytes) phase true h r)))
+    (λ r. rw (r, and-false (whole_field (b ∷ bytes))) (in_wrong (b ∷ bytes) phase true h r)))
 
 -- ---- what was decided before the input's end does not depend on what follows
 
@@ -181,20 +181,20 @@ module _ (bytes rest : List ℕ) (phase : Phase) (h : 6 ≤ length bytes) where
   unfolding length_of
   length_front = number-front bytes rest 1 2 (omega arith)
 
-  tag-front : tag_of (bytes ++ rest) ≡ tag_of bytes
+  tag_front : tag_of (bytes ++ rest) ≡ tag_of bytes
   unfolding tag_of
-  tag-front = number-front bytes rest 0 1 (omega arith)
+  tag_front = number-front bytes rest 0 1 (omega arith)
 
   right-front : right_field phase (bytes ++ rest) ≡ right_field phase bytes
   unfolding right_field marks_in
-  right-front = rw (tag-front, length_front, number-front bytes rest 5 1 (omega arith))
+  right-front = rw (tag_front, length_front, number-front bytes rest 5 1 (omega arith))
 
   -- the bytes of the value are among those in hand
   named-front : right_field phase bytes ≡ true → 3 + length_of bytes ≤ length bytes → field_named (bytes ++ rest) ≡ field_named bytes
   unfolding right_field field_named month_in message_fields
   named-front r w =
       let n = right-length phase (tag_of bytes) (length_of bytes) (marks_in bytes) r in
-      rw (tag-front, length_front) (cases (eqb (tag_of bytes) 1)
+      rw (tag_front, length_front) (cases (eqb (tag_of bytes) 1)
       (λ t.
       let m = due-month (tag_of bytes) (marks_in bytes) (eqb-true _ _ t) in
       rw (
@@ -238,7 +238,7 @@ unfolding cut_off
 front_decides bytes phase = cases (ltb (length bytes) 6)
     (λ t.
     let h : length bytes < 6 = ltb-true (length bytes) 6 t in
-    inl (record { asks = in-short bytes phase false h; short = omega arith }))
+    inl (record { asks = in_short bytes phase false h; short = omega arith }))
     (λ t.
     let h : 6 ≤ length bytes = ltb-false (length bytes) 6 t in
     cases (right_field phase bytes)
@@ -253,8 +253,8 @@ front_decides bytes phase = cases (ltb (length bytes) 6)
     let k : length bytes < 3 + length_of bytes = leb-false _ _ w in
     inl (record { asks = in_cut bytes phase false h r k; short = omega (arith, due-length bytes phase r) })))
     (λ r. inr (λ rest. sym (whole-rest (bytes ++ rest) phase)
-    ∙ in-wrong (bytes ++ rest) phase true (longer bytes rest phase h) (right-front bytes rest phase h ∙ r)
-    ∙ sym (in-wrong bytes phase false h r))))
+    ∙ in_wrong (bytes ++ rest) phase true (longer bytes rest phase h) (right-front bytes rest phase h ∙ r)
+    ∙ sym (in_wrong bytes phase false h r))))
 
 -- ---- what was found lies within the bytes, and the next field begins behind it
 
@@ -280,7 +280,7 @@ inside-named bytes end d w = cases (eqb (tag_of bytes) 1)
 pub inside_in : (bytes : List ℕ) (phase : Phase) (ended : Bool) → Inside 0 (length bytes) (field_in bytes phase ended)
 unfolding right_field field_size
 inside_in bytes phase ended = cases (ltb (length bytes) 6)
-    (λ t. rw (in-short bytes phase ended (ltb-true _ _ t)) (inside_cut (length bytes) (length bytes) ended))
+    (λ t. rw (in_short bytes phase ended (ltb-true _ _ t)) (inside_cut (length bytes) (length bytes) ended))
     (λ t.
     let h : 6 ≤ length bytes = ltb-false _ _ t in
     cases (right_field phase bytes)
@@ -288,7 +288,7 @@ inside_in bytes phase ended = cases (ltb (length bytes) 6)
     (λ w. rw (in_whole bytes phase ended h r (leb-true _ _ w))
     (inside-named bytes (length bytes) (right-length phase (tag_of bytes) (length_of bytes) (marks_in bytes) r) (leb-true _ _ w)))
     (λ w. rw (in_cut bytes phase ended h r (leb-false _ _ w)) (inside_cut (length bytes) (length bytes) ended)))
-    (λ r. rw (in-wrong bytes phase ended h r) (omega arith, tt)))
+    (λ r. rw (in_wrong bytes phase ended h r) (omega arith, tt)))
 
 pub inside_of : (bytes : List ℕ) (phase : Phase) → Inside 0 (length bytes) (field_of bytes phase)
 inside_of bytes phase = rw (whole-rest bytes phase) at (inside_in bytes phase true)

@@ -10,4 +10,3 @@ pub mod EncodeLaws
 pub mod ProgramLaws
 pub mod PrintedLaws
 pub mod CasesHold
-pub mod Held

@@ -13,17 +13,17 @@ use Rattle.file.specs.Bytes.{placed}
 use Rattle.file.specs.Lines.{Written}
 
 module _ {A : Type 0} where
-  pub placed-none : (xs : List A) (at : ℕ) → xs ≡ placed xs at []
+  pub placed_none : (xs : List A) (at : ℕ) → xs ≡ placed xs at []
   unfolding placed
-  placed-none xs at = paste-zero xs at []
+  placed_none xs at = paste-zero xs at []
 
   front_length : (xs : List A) (at : ℕ) (ys : List A) → at ≤ length xs → length (take at xs ++ ys) ≡ at + length ys
   front_length xs at ys h = length-append (take at xs) ys ∙ ap (λ k. k + length ys) (length-take-le at xs h)
 
-  pub placed-more : (xs : List A) (at : ℕ) (ys : List A) (v : A) → at + length ys < length xs
+  pub placed_more : (xs : List A) (at : ℕ) (ys : List A) (v : A) → at + length ys < length xs
       → set (placed xs at ys) (at + length ys) v ≡ placed xs at (ys ++ (v ∷ []))
   unfolding placed
-  placed-more xs at ys v h =
+  placed_more xs at ys v h =
       let k : at + length (ys ++ (v ∷ [])) ≡ suc (at + length ys) = rw length-append (omega arith) in
       rw (
         drop-cons xs (at + length ys) v h,
@@ -58,7 +58,7 @@ module _ {A : Type 0} where
   -- the same by the length of what stands there already
   pub placed-next : (xs : List A) (at : ℕ) (ys : List A) (v : A) (k : ℕ) → length ys ≡ k → at + k < length xs
       → set (placed xs at ys) (at + k) v ≡ placed xs at (ys ++ (v ∷ []))
-  placed-next xs at ys v k e h = let l : at + length ys < length xs = rw e h in rw (← e) (placed-more xs at ys v l)
+  placed-next xs at ys v k e h = let l : at + length ys < length xs = rw e h in rw (← e) (placed_more xs at ys v l)
 
 -- a list in which others were placed: its front up to their end, and what is behind it
 module _ {A : Type 0} (xs : List A) (at : ℕ) (ys : List A) (n : ℕ) (h : at ≤ length xs) (e : n ≡ at + length ys) where
@@ -81,7 +81,7 @@ placed_first xs at text i h k =
 
 -- where nothing is put, the text is empty
 pub nothing_written : (most : ℕ) (out : List ℕ) (from : ℕ) → Written most out out from from []
-nothing_written most out from = record { is = placed-none out from; end = omega arith; short = omega arith }
+nothing_written most out from = record { is = placed_none out from; end = omega arith; short = omega arith }
 
 -- what is written leaves the output as long as it was
 pub written-long : {k at n : ℕ} {a b t : List ℕ} → Written k a b at n t → at + k ≤ length a → length b ≡ length a
@@ -114,17 +114,17 @@ loosened h w = record { is = w.is; end = w.end; short = omega (arith, w.short) }
 -- ---- texts of entries, one behind the other, each of at most `width` bytes
 
 module _ {A : Type 0} (text : A → List ℕ) where
-  texts-more : (xs : List A) (x : A) → flat_map text (xs ++ (x ∷ [])) ≡ flat_map text xs ++ text x
+  texts_more : (xs : List A) (x : A) → flat_map text (xs ++ (x ∷ [])) ≡ flat_map text xs ++ text x
   unfolding flat_map
-  texts-more [] x = append-nil (text x)
-  texts-more (y ∷ xs) x =
-      ap (λ (t : List ℕ). text y ++ t) (texts-more xs x) ∙ sym (append_assoc (text y) (flat_map text xs) (text x))
+  texts_more [] x = append-nil (text x)
+  texts_more (y ∷ xs) x =
+      ap (λ (t : List ℕ). text y ++ t) (texts_more xs x) ∙ sym (append_assoc (text y) (flat_map text xs) (text x))
 
   -- the text of one more
-  pub text-more : (width i : ℕ) (xs : List A) (x : A) {a b c : List ℕ} {from at next : ℕ}
+  pub text_more : (width i : ℕ) (xs : List A) (x : A) {a b c : List ℕ} {from at next : ℕ}
       → Written (i * width) a b from at (flat_map text xs) → Written width b c at next (text x) → from + i * width ≤ length a
       → Written (suc i * width) a c from next (flat_map text (xs ++ (x ∷ [])))
-  text-more width i xs x v w room = rw (suc-mul i width, texts-more xs x) (joined v w room)
+  text_more width i xs x v w room = rw (suc-mul i width, texts_more xs x) (joined v w room)
 
 -- and it has room where there is room for all
 pub text-fits : (width : ℕ) {i from at count m : ℕ} {a b t : List ℕ} → Written (i * width) a b from at t → i < count

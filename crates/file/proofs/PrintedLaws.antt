@@ -1,4 +1,4 @@
--- What `settle` prints is demand 3's run over the file's messages. `settled` walks the fields as `contentsOf` does, so its text is that of
+-- What `settle` prints is demand 3's run over the file's messages. `settled` walks the fields as `contents_of` does, so its text is that of
 -- the lines; a message's lines hold its records, and the worlds go on by the same steps.
 use Prim.Native.Nat.{ℕ, zero, suc, ◌+◌, ◌<◌, ◌≤◌}
 use mathlib.Core.Path.{◌≡◌, refl, sym, ap, ap₂, ◌∙◌}
@@ -36,7 +36,8 @@ use Rattle.file.proofs.ProgramLaws.{shorter}
 text-append : (xs ys : List OutputLine) → text_of (xs ++ ys) ≡ text_of xs ++ text_of ys
 unfolding text_of
 text-append [] ys = refl
-text-append (x ∷ xs) ys = ap (λ (t : List ℕ). line_text x ++ t) (text-append xs ys) ∙ sym (append_assoc (line_text x) (text_of xs) (text_of ys))
+text-append (x ∷ xs) ys =
+    ap (λ (t : List ℕ). line_text x ++ t) (text-append xs ys) ∙ sym (append_assoc (line_text x) (text_of xs) (text_of ys))
 
 text-records : (rs : List Record) → text_of (written_all rs) ≡ record_lines rs
 unfolding text_of written_all flat_map line_text
@@ -139,7 +140,8 @@ settled-text bytes = on_month_lem (field_of bytes Phase.Start) (length bytes)
     (λ h. elements_from (length bytes) (drop month_size bytes) h [])
     (λ h. elements_in (length bytes) (drop month_size bytes) h [])
     (inside_of bytes Phase.Start)
-    (λ h b. elements-text (length bytes) (drop month_size bytes) h [] (shorter bytes month_size (length bytes) (omega arith) (omega arith) b))
+    (λ h b.
+    elements-text (length bytes) (drop month_size bytes) h [] (shorter bytes month_size (length bytes) (omega arith) (omega arith) b))
 
 -- ---- worlds and records
 
@@ -208,27 +210,28 @@ module _ (o : Opening) {fs : List Fields} (x : Split fs) where
       (lines-append (begin (opened (lent_for o))) x.before (x.message ∷ []) 1
       ∙ ap (λ (ls : List OutputLine). lines_from (opened (lent_for o)) x.before 1 ++ ls) (append-nil _))
 
-  split-line : lines_to o fs ≡ lines_to o (up_to x) ++ lines_from (reached_by o (up_to x)).world x.behind (length x.before + 2)
+  split_line : lines_to o fs ≡ lines_to o (up_to x) ++ lines_from (reached_by o (up_to x)).world x.behind (length x.before + 2)
   unfolding begin
-  split-line =
+  split_line =
       let n : length (up_to x) + 1 ≡ length x.before + 2 = rw (length-append x.before (x.message ∷ [])) (omega arith) in
       rw (x.is, ← append_assoc x.before (x.message ∷ []), ← n)
       (ap (λ (ls : List OutputLine). OutputLine.book o ∷ ls) (lines-append (begin (opened (lent_for o))) (up_to x) x.behind 1))
 
   records-line : records_among (lines_to o (up_to x)) ≡ (reached_by o (up_to x)).records
   unfolding begin records_among
-  records-line = among_from (begin (opened (lent_for o))) (up_to x) 1 ∙ sym (records-behind (begin (opened (lent_for o))) (events_of (up_to x)))
+  records-line =
+      among_from (begin (opened (lent_for o))) (up_to x) 1 ∙ sym (records-behind (begin (opened (lent_for o))) (events_of (up_to x)))
 
-  events-split : events_of fs ≡ events_of x.before ++ (event_of x.message ∷ events_of x.behind)
+  events_split : events_of fs ≡ events_of x.before ++ (event_of x.message ∷ events_of x.behind)
   unfolding events_of
-  events-split = ap events_of x.is ∙ events_append x.before (x.message ∷ x.behind)
+  events_split = ap events_of x.is ∙ events_append x.before (x.message ∷ x.behind)
 
   abbrev split_events : Split (events_of fs)
   split_events = record {
     before = events_of x.before;
     message = event_of x.message;
     behind = events_of x.behind;
-    is = events-split;
+    is = events_split;
   }
 
   to-here : up_to split_events ≡ events_of (up_to x)
@@ -253,33 +256,33 @@ module _ (bytes : List ℕ) (c : Contents) (h : contents_of bytes ≡ some c) (a
   inside s e b = b
 
   -- a message as an event is of its kind, and has its answer
-  event-round : (x : Split c.messages.fields) → x.message.kind ≡ 8 → (event_of x.message).fields.kind ≡ 8
-  event-round x z = rw (same-fields x.message) z
+  event_round : (x : Split c.messages.fields) → x.message.kind ≡ 8 → (event_of x.message).fields.kind ≡ 8
+  event_round x z = rw (same-fields x.message) z
 
-  event-answer : (x : Split c.messages.fields) → answer (reached_by c.opening x.before).world x.message settle_records ≡ 0
+  event_answer : (x : Split c.messages.fields) → answer (reached_by c.opening x.before).world x.message settle_records ≡ 0
       → answer (reached_by c.opening x.before).world (event_of x.message).fields (length (event_of x.message).lent) ≡ 0
-  event-answer x q = rw (lent-long x.message, same-fields x.message) q
+  event_answer x q = rw (lent-long x.message, same-fields x.message) q
 
-  pub settled-as : SettledAs bytes c.opening c.messages.fields c.messages.broken
-  settled-as =
+  pub settled_as : SettledAs bytes c.opening c.messages.fields c.messages.broken
+  settled_as =
       let k = demand3 (lent_for c.opening) (opening-accepted c.opening a) (events_of c.messages.fields) in
       record {
         text = whole-text;
         kept = k;
         each = λ x. each_line c.opening x;
-        front = λ x. whole-text ∙ ap (λ ls. text_of (ls ++ end_lines c.messages.broken)) (split-line c.opening x)
+        front = λ x. whole-text ∙ ap (λ ls. text_of (ls ++ end_lines c.messages.broken)) (split_line c.opening x)
             ∙ ap text_of (append_assoc (lines_to c.opening (up_to x)) _ _) ∙ text-append (lines_to c.opening (up_to x)) _;
         records = λ x. records-line c.opening x;
         rounds = λ x z q m s e b.
             ap (total m s e) (records-line c.opening x)
-            ∙ rw (to-here c.opening x) at (k.rounds (split_events c.opening x) (event-round x z) (event-answer x q) m s e
+            ∙ rw (to-here c.opening x) at (k.rounds (split_events c.opening x) (event_round x z) (event_answer x q) m s e
             (inside s e b));
         last_balance = λ x s e b.
             let j = demand3 (lent_for c.opening) (opening-accepted c.opening a) (events_of (up_to x)) in
             rw (records-line c.opening x) (j.last_balance s e (inside s e b));
         round_balance = λ x z q s e b.
             rw (records-line c.opening x) (rw (to-here c.opening x) at (k.round_balance (split_events c.opening x)
-            (event-round x z) (event-answer x q) s e (inside s e b)));
+            (event_round x z) (event_answer x q) s e (inside s e b)));
         each_balance = λ x r m.
             let w = (reached_by c.opening x.before).world in
             let here = rw (among_lines w x.message (length x.before + 1), ← event_records w x.message) at m in
@@ -291,4 +294,4 @@ module _ (bytes : List ℕ) (c : Contents) (h : contents_of bytes ≡ some c) (a
       → (m : Measure) (s e : ℕ) → InBook c.opening s e
       → total m s e (records_among (lines_to c.opening (up_to x)))
       ≡ named m (line_query (reached_by c.opening (up_to x)).world s e)
-  printed-records-add-up = settled-as.rounds
+  printed-records-add-up = settled_as.rounds

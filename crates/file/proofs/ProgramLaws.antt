@@ -1,4 +1,4 @@
--- The bound on the number of fields in `messagesFrom` and `elementsFrom` cuts nothing: where it is above the number of bytes left, any
+-- The bound on the number of fields in `messages_from` and `elements_from` cuts nothing: where it is above the number of bytes left, any
 -- other such bound prints the same. Each field that is found takes bytes away. Assumes nothing.
 use Prim.Native.Nat.{ℕ, zero, suc, ◌+◌, ◌≤◌, ◌<◌}
 use mathlib.Core.Path.{◌≡◌, refl, ap}

@@ -5,7 +5,6 @@ ghost use Rattle.file.specs.Bytes.{word_bytes, word_room, number_in, twos_comple
 ghost use Rattle.file.specs.Field.{month_size, message_size, tag_allowed, element_length, length_due, header_right, cut_off};
 ghost use Rattle.file.specs.Field.{month_in, message_fields, field_named, RightField, field_in, field_size};
 ghost use Rattle.file.specs.Element.{price_at, prices_in, element_bytes, element_prices, ElementRoom};
-ghost use Rattle.rules.specs.Lent.{left, was};
 ghost use Rattle.rules.specs.Sizes.{price_places};
 
 use crate::output::put_bytes;
@@ -50,7 +49,7 @@ const FIRST_NEGATIVE: u64 = 9223372036854775808;
 // The number in the n bytes from a place on; 64 bits have room for eight.
 pub fn number_at(s: &[u8], at: usize, n: usize) -> u64
     requires { (n ≤ word_bytes) × (at + n ≤ length s.now) }
-    ensures { result ≡ number_in (was s) at n }
+    ensures { result ≡ number_in s.now at n }
 {
     let mut value: u64 = 0;
     let mut i = 0;
@@ -64,7 +63,7 @@ pub fn number_at(s: &[u8], at: usize, n: usize) -> u64
 // ---- fields
 
 // What may come next: the month, then elements and messages, then messages only.
-#[derive(Drop)]
+#[derive(Clone, Copy)]
 pub enum Phase {
     Start,
     Elements,
@@ -72,7 +71,7 @@ pub enum Phase {
 }
 
 // What stands at a place of the input.
-#[derive(Drop)]
+#[derive(Clone, Copy)]
 pub enum Found {
     // tag 1
     Month {
@@ -158,7 +157,7 @@ fn cut_off(have: usize, ended: bool) -> Found
 // The month in a field at a place.
 fn month_at(s: &[u8], at: usize) -> Found
     requires { at + month_size ≤ length s.now }
-    ensures { result ≡ month_in (drop at (was s)) }
+    ensures { result ≡ month_in (drop at s.now) }
 {
     Found::Month {
         year: number_at(s, at + 3, 2),
@@ -171,7 +170,7 @@ fn month_at(s: &[u8], at: usize) -> Found
 // The message in a field at a place.
 fn fields_at(s: &[u8], at: usize) -> Fields
     requires { at + message_size ≤ length s.now }
-    ensures { result ≡ message_fields (drop at (was s)) }
+    ensures { result ≡ message_fields (drop at s.now) }
 {
     Fields {
         kind: number_at(s, at + 3, 1),
@@ -189,7 +188,7 @@ fn fields_at(s: &[u8], at: usize) -> Fields
 // A field that is whole and right.
 fn field_named(s: &[u8], at: usize, tag: u64, length: usize) -> Found
     requires { RightField (drop at s.now) tag length }
-    ensures { result ≡ field_named (drop at (was s)) }
+    ensures { result ≡ field_named (drop at s.now) }
 {
     if tag == MONTH_TAG {
         month_at(s, at)
@@ -205,7 +204,7 @@ fn field_named(s: &[u8], at: usize, tag: u64, length: usize) -> Found
 // The field at a place. Where the bytes do not reach to its end, `ended` says whether the input ends with them.
 pub fn field_at(s: &[u8], at: usize, phase: Phase, ended: bool) -> Found
     requires { at ≤ length s.now }
-    ensures { result ≡ field_in (drop at (was s)) phase ended }
+    ensures { result ≡ field_in (drop at s.now) phase ended }
 {
     let have = s.len() - at;
     if have < HEAD_SIZE {
@@ -262,7 +261,7 @@ fn signed(n: u64) -> i64
 // Price k of the value of `size` bytes at a place, or 0 where it has fewer.
 fn price_at(s: &[u8], at: usize, size: usize, k: usize) -> i64
     requires { (at + size ≤ length s.now) × (k < price_places) }
-    ensures { result ≡ price_at (take size (drop at (was s))) k }
+    ensures { result ≡ price_at (take size (drop at s.now)) k }
 {
     if ONE_PRICE_LENGTH + PRICE_BYTES * k <= size {
         signed(number_at(s, at + (ELEMENT_SIZE + PRICE_BYTES * k), PRICE_BYTES))
@@ -274,7 +273,7 @@ fn price_at(s: &[u8], at: usize, size: usize, k: usize) -> i64
 // The 24 prices of the value, from a place of the table on.
 fn put_prices(prices: &mut [i64], place: usize, s: &[u8], at: usize, size: usize)
     requires { (at + size ≤ length s.now) × (place + price_places ≤ length prices.old) }
-    ensures { left prices ≡ placed (was prices) place (prices_in (take size (drop at (was s)))) }
+    ensures { prices.new ≡ placed prices.old place (prices_in (take size (drop at s.now))) }
 {
     let mut k = 0;
     while k < PRICE_PLACES {
@@ -293,8 +292,8 @@ pub fn read_element(
     e: usize,
 )
     requires { ElementRoom s.now at size element_data.old prices.old e }
-    ensures described { left element_data ≡ element_bytes (was element_data) e (take size (drop at (was s))) }
-    ensures priced { left prices ≡ element_prices (was prices) e (take size (drop at (was s))) }
+    ensures described { element_data.new ≡ element_bytes element_data.old e (take size (drop at s.now)) }
+    ensures priced { prices.new ≡ element_prices prices.old e (take size (drop at s.now)) }
 {
     put_bytes(element_data, e * ELEMENT_SIZE, &s[at..at + ELEMENT_SIZE]);
     put_prices(prices, e * PRICE_PLACES, s, at, size);

@@ -3,7 +3,6 @@ ghost use Rattle.std.specs.Prelude.{◌≡◌, [], ◌∷◌, ◌+◌, ◌≤◌
 ghost use Rattle.file.specs.Decimal.{decimal};
 ghost use Rattle.file.specs.Lines.{number_then, signed_then, measures_then, book_line, record_names, record_line, refused_line};
 ghost use Rattle.file.specs.Lines.{number_width, signed_width, names_width, measures_width, longest_line, Written};
-ghost use Rattle.rules.specs.Lent.{left, was};
 
 use integers::{is_negative, magnitude};
 use rules::{Line, Record};
@@ -19,7 +18,7 @@ pub const LONGEST_LINE: usize = 200;
 // One byte; the answer is the place behind it.
 fn put_byte(out: &mut [u8], at: usize, b: u8) -> usize
     requires { at < length out.old }
-    ensures { Written 1 (was out) (left out) at result (b ∷ []) }
+    ensures { Written 1 out.old out.new at result (b ∷ []) }
 {
     out[at] = b;
     at + 1
@@ -28,7 +27,7 @@ fn put_byte(out: &mut [u8], at: usize, b: u8) -> usize
 // All bytes of a text.
 pub fn put_bytes(out: &mut [u8], at: usize, text: &[u8]) -> usize
     requires { at + length text.now ≤ length out.old }
-    ensures { Written (length (was text)) (was out) (left out) at result (was text) }
+    ensures { Written (length text.now) out.old out.new at result text.now }
 {
     let mut i = 0;
     while i < text.len() {
@@ -43,12 +42,15 @@ pub fn put_bytes(out: &mut [u8], at: usize, text: &[u8]) -> usize
 // The character 0.
 const ZERO_DIGIT: u64 = 48;
 
+// The first number of two digits.
+const TWO_DIGITS: u64 = 10;
+
 // A number in decimal, without leading zeros.
 pub fn put_number(out: &mut [u8], at: usize, n: u64) -> usize
     requires { at + length (decimal n) ≤ length out.old }
-    ensures { Written (length (decimal n)) (was out) (left out) at result (decimal n) }
+    ensures { Written (length (decimal n)) out.old out.new at result (decimal n) }
 {
-    if n < 10 {
+    if n < TWO_DIGITS {
         put_byte(out, at, (ZERO_DIGIT + n) as u8)
     } else {
         let next = put_number(out, at, n / 10);
@@ -59,7 +61,7 @@ pub fn put_number(out: &mut [u8], at: usize, n: u64) -> usize
 // A number and the byte behind it.
 pub fn put_number_then(out: &mut [u8], at: usize, n: u64, after: u8) -> usize
     requires { at + number_width ≤ length out.old }
-    ensures { Written number_width (was out) (left out) at result (number_then n after) }
+    ensures { Written number_width out.old out.new at result (number_then n after) }
 {
     let next = put_number(out, at, n);
     put_byte(out, next, after)
@@ -79,7 +81,7 @@ fn size_of(z: i64) -> u64
 // A signed number, with a minus sign where it is negative, and the byte behind it.
 pub fn put_signed_then(out: &mut [u8], at: usize, z: i64, after: u8) -> usize
     requires { at + signed_width ≤ length out.old }
-    ensures { Written signed_width (was out) (left out) at result (signed_then z after) }
+    ensures { Written signed_width out.old out.new at result (signed_then z after) }
 {
     let size = size_of(z);
     if is_negative(z) {
@@ -95,7 +97,7 @@ pub fn put_signed_then(out: &mut [u8], at: usize, z: i64, after: u8) -> usize
 // `book`: year, month, days, first day.
 pub fn put_book(out: &mut [u8], at: usize, year: u64, month: u64, days: u64, first: u64) -> usize
     requires { at + longest_line ≤ length out.old }
-    ensures { Written longest_line (was out) (left out) at result (book_line year month days first) }
+    ensures { Written longest_line out.old out.new at result (book_line year month days first) }
 {
     let word = put_bytes(out, at, b"book ");
     let next = put_number_then(out, word, year, b' ');
@@ -107,7 +109,7 @@ pub fn put_book(out: &mut [u8], at: usize, year: u64, month: u64, days: u64, fir
 // The first part of a record's line: what it is about.
 fn put_record_names(out: &mut [u8], at: usize, kind: u64, supplier: u64, element: u64) -> usize
     requires { at + names_width ≤ length out.old }
-    ensures { Written names_width (was out) (left out) at result (record_names kind supplier element) }
+    ensures { Written names_width out.old out.new at result (record_names kind supplier element) }
 {
     let word = put_bytes(out, at, b"record ");
     let next = put_number_then(out, word, kind, b' ');
@@ -118,7 +120,7 @@ fn put_record_names(out: &mut [u8], at: usize, kind: u64, supplier: u64, element
 // A quantity, kroner and billionths, and the byte behind them.
 fn put_measures(out: &mut [u8], at: usize, line: Line, after: u8) -> usize
     requires { at + measures_width ≤ length out.old }
-    ensures { Written measures_width (was out) (left out) at result (measures_then line after) }
+    ensures { Written measures_width out.old out.new at result (measures_then line after) }
 {
     let next = put_signed_then(out, at, line.quantity, b' ');
     let next = put_signed_then(out, next, line.kroner, b' ');
@@ -128,7 +130,7 @@ fn put_measures(out: &mut [u8], at: usize, line: Line, after: u8) -> usize
 // `record`: kind, supplier, element, quantity, kroner, billionths, and the balance's quantity, kroner, billionths.
 pub fn put_record(out: &mut [u8], at: usize, r: Record) -> usize
     requires { at + longest_line ≤ length out.old }
-    ensures { Written longest_line (was out) (left out) at result (record_line r) }
+    ensures { Written longest_line out.old out.new at result (record_line r) }
 {
     let moved = r.moved;
     let balance = r.balance;
@@ -140,7 +142,7 @@ pub fn put_record(out: &mut [u8], at: usize, r: Record) -> usize
 // `refused`: message number, question.
 pub fn put_refused(out: &mut [u8], at: usize, message: u64, question: u64) -> usize
     requires { at + longest_line ≤ length out.old }
-    ensures { Written longest_line (was out) (left out) at result (refused_line message question) }
+    ensures { Written longest_line out.old out.new at result (refused_line message question) }
 {
     let word = put_bytes(out, at, b"refused ");
     let next = put_number_then(out, word, message, b' ');

@@ -3,12 +3,11 @@
 ghost use Rattle.std.specs.Prelude.{◌≡◌, ◌+◌, ◌≤◌, length, drop};
 ghost use Rattle.file.specs.Field.{field_in, field_size};
 ghost use Rattle.file.specs.Reader.{located_at};
-ghost use Rattle.rules.specs.Lent.{was};
 
 use crate::fields::{Found, Phase, field_at, place_behind};
 
 // "The reader carries the bytes it was lent and how far it has come."
-#[derive(Drop)]
+#[derive(Clone, Copy)]
 pub struct Reader<'a> {
     pub bytes: &'a [u8],
     pub at: usize,
@@ -48,7 +47,7 @@ pub fn place<'a>(r: Reader<'a>) -> usize
 }
 
 // What a reader has found, and how far it has come behind it.
-#[derive(Drop)]
+#[derive(Clone, Copy)]
 pub struct Located {
     pub found: Found,
     pub place: usize,
@@ -57,7 +56,7 @@ pub struct Located {
 // Reads the field at a place of the bytes, through a reader: for callers whose parameters are plain.
 pub fn read(bytes: &[u8], at: usize, phase: Phase, ended: bool) -> Located
     requires { at ≤ length bytes.now }
-    ensures { result ≡ located_at (was bytes) at phase ended }
+    ensures { result ≡ located_at bytes.now at phase ended }
 {
     let r = reader_at(bytes, at);
     let found = field(r, phase, ended);

@@ -20,7 +20,7 @@ use Rattle.rules.specs.Opening.{opening_answer, opened, after_opening}
 use Rattle.rules.specs.Queries.{line_query, named}
 use Rattle.rules.specs.Claim.{Event, History, advance, advance_all, begin, Split, up_to, total, balance_of, LastBalance, LastStands, Holds}
 use Rattle.rules.proofs.Demand3.{demand3, advance-append, advance_snoc, records_from, records-behind}
-use Rattle.rules.proofs.Ranges.{get_d-list_to}
+use Rattle.rules.proofs.Ranges.{get_d_list_to}
 use Rattle.ledger.specs.RecordNumbers.{numbers_after, record_at}
 use Rattle.ledger.proofs.RecordNumbers.{records-read}
 use Rattle.rules.specs.Lent.{Lists, world_in}
@@ -38,35 +38,35 @@ module _ (w : World) (room : ℕ) {fs : List Fields} (x : Split fs) where
   abbrev event : Event
   event = lent_with x.message (places_left w x.before room)
 
-  abbrev before-it : List Event
-  before-it = events_from w x.before room
+  abbrev before_it : List Event
+  before_it = events_from w x.before room
 
-  abbrev behind-it : List Event
-  behind-it = events_from (step (world_left w x.before room) x.message (places_left w x.before room)) x.behind
+  abbrev behind_it : List Event
+  behind_it = events_from (step (world_left w x.before room) x.message (places_left w x.before room)) x.behind
       (places_left w x.before room
       - length (records_of (world_left w x.before room) x.message (places_left w x.before room)))
 
-  events-split : events_from w fs room ≡ before-it ++ (event ∷ behind-it)
+  events_split : events_from w fs room ≡ before_it ++ (event ∷ behind_it)
   unfolding events_from
-  events-split = ap (λ (gs : List Fields). events_from w gs room) x.is ∙ events_append w x.before (x.message ∷ x.behind) room
+  events_split = ap (λ (gs : List Fields). events_from w gs room) x.is ∙ events_append w x.before (x.message ∷ x.behind) room
 
   -- the events are split where the messages are
   abbrev split_events : Split (events_from w fs room)
-  split_events = record { before = before-it; message = event; behind = behind-it; is = events-split }
+  split_events = record { before = before_it; message = event; behind = behind_it; is = events_split }
 
   -- its answer stands behind those before it
   answer_at : (rest : List ℕ) → get_or (answers_to w (events_from w fs room) ++ rest) (length x.before) 0
       ≡ answer (run_from w x.before room).world event.fields (length event.lent)
   unfolding begin answers_to
   answer_at rest =
-      rw (events-split, answers-append (begin w) before-it (event ∷ behind-it), append_assoc)
-      (get_or_at (answers_to w before-it) _ _ 0 (length x.before) (length-answers w x.before room w))
+      rw (events_split, answers-append (begin w) before_it (event ∷ behind_it), append_assoc)
+      (get_or_at (answers_to w before_it) _ _ 0 (length x.before) (length-answers w x.before room w))
 
   -- the records up to it stand before those of the messages behind it
-  records-front : (run_from w fs room).records ≡ (run_from w (up_to x) room).records ++ records_from (run_from w (up_to x) room) behind-it
+  records-front : (run_from w fs room).records ≡ (run_from w (up_to x) room).records ++ records_from (run_from w (up_to x) room) behind_it
   records-front =
-      rw (events-split, events_more w x.before x.message room, ← append_assoc before-it (event ∷ []) behind-it)
-      (ap (λ (h : History). h.records) (advance-append (begin w) (before-it ++ (event ∷ [])) behind-it) ∙ records-behind _ behind-it)
+      rw (events_split, events_more w x.before x.message room, ← append_assoc before_it (event ∷ []) behind_it)
+      (ap (λ (h : History). h.records) (advance-append (begin w) (before_it ++ (event ∷ [])) behind_it) ∙ records-behind _ behind_it)
 
 -- ---- demand 3 of the function's run
 
@@ -138,10 +138,10 @@ module _ (w after : World) (fs : List Fields) (count : ℕ) (lent out : List ℤ
       abbrev place : ℕ
       place = i - length earlier
 
-      record-here : record_at out i ≡ get_or here place no_record
-      record-here =
+      record_here : record_at out i ≡ get_or here place no_record
+      record_here =
           let n : i ≡ length earlier + place = omega arith in
-          sym (get_d-list_to (record_at out) (length (reached_by w (up_to x) lent).records) i no_record high)
+          sym (get_d_list_to (record_at out) (length (reached_by w (up_to x) lent).records) i no_record high)
           ∙ ap (λ (rs : List Record). get_or rs i no_record) (front_back ∙ written-here)
           ∙ ap (λ (k : ℕ). get_or (earlier ++ here) k no_record) n
           ∙ get_or-append-add earlier here place no_record
@@ -151,7 +151,7 @@ module _ (w after : World) (fs : List Fields) (count : ℕ) (lent out : List ℤ
 
       each_at : balance_of (record_at out i)
           ≡ line_query (reached_by w (up_to x) lent).world (record_at out i).supplier (record_at out i).element
-      each_at = rw record-here (rw to-here at ((demand3 w a (events_of w fs lent)).each_balance y (get_or here place no_record)
+      each_at = rw record_here (rw to-here at ((demand3 w a (events_of w fs lent)).each_balance y (get_or here place no_record)
           (member_at here place place_here)))
 
   from-opened : FromOpening w after fs count lent out answered
@@ -188,9 +188,9 @@ module _ (w : World) (a : ℕ) (n : a ≡ opening_answer w) (fs : List Fields) w
     refused = λ _. (k, refl, refl, refl);
   }
 
-  pub opened-and-run : a ≡ 0 → (mid after : World) (count : ℕ) (lent out : List ℤ) (table answered : List ℕ)
+  pub opened_and_run : a ≡ 0 → (mid after : World) (count : ℕ) (lent out : List ℤ) (table answered : List ℕ)
       → mid ≡ opened w → Followed mid after fs count lent out table answered → OpensAndRuns w after fs a count lent out table answered
-  opened-and-run z mid after count lent out table answered s g =
+  opened_and_run z mid after count lent out table answered s g =
       record {
         number = n;
         followed = λ _. rw s at g;

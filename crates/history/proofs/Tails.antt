@@ -13,19 +13,19 @@ use Rattle.settlement.specs.Replies.{Replied}
 use borrow.Rule.Slice.PartMut.{mid_of, put_mid, Post-is, take_put}
 
 module _ {A : Type 0} (at : ℕ) (xs : List A) where
-  tail-lent : mid_of at (length xs - at) xs ≡ drop at xs
-  tail-lent = take_all (length xs - at) (drop at xs) (let l = length-drop at xs in omega arith)
+  tail_lent : mid_of at (length xs - at) xs ≡ drop at xs
+  tail_lent = take_all (length xs - at) (drop at xs) (let l = length-drop at xs in omega arith)
 
   module _ (ys : List A) (h : at ≤ length xs) where
-    tail-back : drop at (put_mid at (length xs - at) xs ys) ≡ ys
-    tail-back = drop_at (take at xs) _ at (length-take-le at xs h) ∙ rw (Post-is at (length xs) xs h, drop-length xs) (append-nil ys)
+    tail_back : drop at (put_mid at (length xs - at) xs ys) ≡ ys
+    tail_back = drop_at (take at xs) _ at (length-take-le at xs h) ∙ rw (Post-is at (length xs) xs h, drop-length xs) (append-nil ys)
 
-    front-stays : take at (put_mid at (length xs - at) xs ys) ≡ take at xs
-    front-stays = take_put at (length xs - at) xs ys h
+    front_stays : take at (put_mid at (length xs - at) xs ys) ≡ take at xs
+    front_stays = take_put at (length xs - at) xs ys h
 
 -- a message that was lent the tail
 pub replied_tail : (mid after : World) (f : Fields) (r : Reply) (list ys : List ℤ) (at : ℕ) → at ≤ length list
     → Replied mid after f r (mid_of at (length list - at) list) ys
     → Replied mid after f r (drop at list) (drop at (put_mid at (length list - at) list ys))
     × (take at (put_mid at (length list - at) list ys) ≡ take at list)
-replied_tail mid after f r list ys at h q = (rw (tail-back at list ys h, ← tail-lent at list) q, front-stays at list ys h)
+replied_tail mid after f r list ys at h q = (rw (tail_back at list ys h, ← tail_lent at list) q, front_stays at list ys h)

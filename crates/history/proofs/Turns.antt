@@ -16,7 +16,7 @@ use Rattle.rules.specs.Sizes.{record_size}
 use Rattle.rules.specs.World.{World}
 use Rattle.rules.specs.Effects.{no_record, answer, step, records_of}
 use Rattle.rules.specs.Claim.{Event, History, advance, advance_all, begin}
-use Rattle.rules.proofs.Passed.{records-fit}
+use Rattle.rules.proofs.Passed.{records_fit}
 use Rattle.rules.proofs.Demand3.{advance_snoc}
 use Rattle.rules.proofs.Ranges.{length-list_to}
 use Rattle.ledger.specs.RecordNumbers.{numbers_of, numbers_after, record_numbers, record_at}
@@ -52,7 +52,7 @@ left_is h [] room = refl
 left_is h (f ∷ fs) room =
     let n = length (records_of h.world f room) in
     let e = left_is (advance h (lent_with f room)) fs (room - n) in
-    let k = records-fit h.world f room in
+    let k = records_fit h.world f room in
     let l : length (advance h (lent_with f room)).records ≡ length h.records + n = ap length (advance-records h f room)
     ∙ length-append h.records _ in
     let s : length h.records + room ≡ length (advance h (lent_with f room)).records + (room - n) = omega arith in
@@ -110,9 +110,9 @@ module _ (rs ss : List Record) (lent : List ℤ) (n : ℕ) (e : n ≡ length rs)
   unfolding numbers_after
   front = take_at (numbers_of rs) _ (n * record_size) (length-numbers rs ∙ ap (λ k. k * record_size) (sym e))
 
-  behind-them : drop (n * record_size) (numbers_after rs lent) ≡ drop (n * record_size) lent
+  behind_them : drop (n * record_size) (numbers_after rs lent) ≡ drop (n * record_size) lent
   unfolding numbers_after
-  behind-them = drop_at (numbers_of rs) _ (n * record_size) (length-numbers rs ∙ ap (λ k. k * record_size) (sym e)) ∙ rw e
+  behind_them = drop_at (numbers_of rs) _ (n * record_size) (length-numbers rs ∙ ap (λ k. k * record_size) (sym e)) ∙ rw e
 
   numbers-behind : numbers_of rs ++ numbers_after ss (drop (n * record_size) lent) ≡ numbers_after (rs ++ ss) lent
   unfolding numbers_after
@@ -177,7 +177,7 @@ module _ (w mid : World) (fs : List Fields) (count : ℕ) (lent list : List ℤ)
     -- the records of one message more fit too
     pub next_fits : count + r.records ≤ length lent / record_size
     next_fits =
-        let k = records-fit mid f (room_in (drop (count * record_size) list)) in
+        let k = records_fit mid f (room_in (drop (count * record_size) list)) in
         let n = q.count in
         let e = left_here in
         let l = room-left in
@@ -193,8 +193,8 @@ module _ (w mid : World) (fs : List Fields) (count : ℕ) (lent list : List ℤ)
     run_more = ap (advance_all (begin w)) (events_more w fs f (room_in lent))
         ∙ advance_snoc (begin w) (events_from w fs (room_in lent)) (lent_with f room)
 
-    world-more : after ≡ (run_from w (fs ++ (f ∷ [])) (room_in lent)).world
-    world-more = q.world ∙ rw (room-left, g.world) (sym (ap (λ x. x.world) run_more ∙ advance-world h f room))
+    world_more : after ≡ (run_from w (fs ++ (f ∷ [])) (room_in lent)).world
+    world_more = q.world ∙ rw (room-left, g.world) (sym (ap (λ x. x.world) run_more ∙ advance-world h f room))
 
     written_more : h.records ++ records_of mid f (room_in (drop (count * record_size) list)) ≡ (run_from w (fs ++ (f ∷ []))
         (room_in lent)).records
@@ -207,11 +207,11 @@ module _ (w mid : World) (fs : List Fields) (count : ℕ) (lent list : List ℤ)
         let ss = records_of mid f (room_in (drop (count * record_size) list)) in
         sym (take-append-drop (count * record_size) out)
         ∙ ap₂ (λ (a b : List ℤ). a ++ b) (p ∙ ap (take (count * record_size)) g.list ∙ front rs ss lent count g.count-is)
-        (q.list ∙ ap (numbers_after ss) (ap (drop (count * record_size)) g.list ∙ behind-them rs ss lent count g.count-is))
+        (q.list ∙ ap (numbers_after ss) (ap (drop (count * record_size)) g.list ∙ behind_them rs ss lent count g.count-is))
         ∙ numbers-behind rs ss lent count g.count-is ∙ ap (λ x. numbers_after x lent) written_more
 
-    count-more : count + r.records ≡ length (run_from w (fs ++ (f ∷ [])) (room_in lent)).records
-    count-more = ap₂ (λ (a b : ℕ). a + b) g.count-is q.count ∙ sym (length-append h.records _) ∙ ap length written_more
+    count_more : count + r.records ≡ length (run_from w (fs ++ (f ∷ [])) (room_in lent)).records
+    count_more = ap₂ (λ (a b : ℕ). a + b) g.count-is q.count ∙ sym (length-append h.records _) ∙ ap length written_more
 
     answer-is : number_of r.answer ≡ answer h.world f (length (replicate room no_record))
     answer-is = q.number ∙ rw (room-left, g.world, any-long room)
@@ -236,9 +236,9 @@ module _ (w mid : World) (fs : List Fields) (count : ℕ) (lent list : List ℤ)
         → Followed w after (fs ++ (f ∷ [])) (count + r.records) lent out table given
     followed_more p given s l =
         record {
-          world = world-more;
+          world = world_more;
           list = list_more p;
-          count-is = count-more;
+          count-is = count_more;
           answers = s ∙ answers-after l;
         }
 
@@ -258,11 +258,12 @@ module _ (w mid : World) (inputs : List ℕ) (i count : ℕ) (lent list : List �
   answered-same l = answered-long w mid (messages_of inputs i) count lent list table answered g (rw (length-messages inputs i) l)
 
   -- one turn of the loop
-  pub followed-turn : (after : World) (f : Fields) (r : Reply) (out : List ℤ) (n : ℕ) → i < length table → f ≡ fields_at inputs i
+  pub followed_turn : (after : World) (f : Fields) (r : Reply) (out : List ℤ) (n : ℕ) → i < length table → f ≡ fields_at inputs i
       → Replied mid after f r (drop (count * record_size) list) (drop (count * record_size) out)
       → take (count * record_size) out ≡ take (count * record_size) list → n ≡ number_of r.answer
       → Followed w after (messages_of inputs (i + 1)) (count + r.records) lent out table (set answered i n)
-  followed-turn after f r out n l e q p a =
+  followed_turn after f r out n l e q p a =
       let k = length-messages inputs i in
       rw (messages_more inputs i, ← e)
-      (followed_more w mid (messages_of inputs i) count lent list table answered g after f r out q p (set answered i n) (rw (k, a)) (rw k l))
+      (followed_more w mid (messages_of inputs i) count lent list table answered g after f r out q p (set answered i n) (rw (k, a))
+      (rw k l))

@@ -1,5 +1,5 @@
 -- The run of a list of messages as the rules have it, and the promise of a function that takes the list.
-use Rattle.std.specs.Prelude.{ℕ, ◌+◌, ◌-◌, ◌*◌, ◌≡◌, List, [], ◌∷◌, ◌++◌, ℤ, length, take, drop, replicate}
+use Rattle.std.specs.Prelude.{ℕ, ◌-◌, ◌*◌, ◌≡◌, List, [], ◌∷◌, ◌++◌, ℤ, length, take, drop, replicate}
 use Rattle.rules.specs.declared.Fields.{Fields}
 use Rattle.rules.specs.Basics.{list_to}
 use Rattle.rules.specs.World.{World}

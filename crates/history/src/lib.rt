@@ -1,6 +1,8 @@
 // A list of messages, taken one after the other by the entry point: the run that demand 3 speaks of; and the same from an opening.
+#![tactic(auto)]
+
 ghost use Rattle.std.specs.Prelude.{◌≡◌, length, ◌/◌, ◌<◌, min};
-ghost use Rattle.rules.specs.Lent.{world_in, lent, left, was};
+ghost use Rattle.rules.specs.Lent.{world_in, given};
 ghost use Rattle.settlement_book.specs.Numbers.{fields_size};
 ghost use Rattle.recording.specs.Opened.{named_book};
 ghost use Rattle.history.specs.Runs.{fields_at, messages_of, Followed};
@@ -13,7 +15,7 @@ use settlement_book::{message, settlement_book_open};
 use validation::questions::number;
 
 // What a run leaves: the book, and how many records stand at the front of the list.
-#[derive(Drop)]
+#[derive(Clone, Copy)]
 pub struct Ran {
     pub book: Book,
     pub records: usize,
@@ -30,7 +32,7 @@ fn taken(numbers: usize, places: usize) -> usize
 // The message at a place of the list.
 fn fields_at(inputs: &[u64], i: usize) -> Fields
     requires { i < length inputs.now / fields_size }
-    ensures { result ≡ fields_at (was inputs) i }
+    ensures { result ≡ fields_at inputs.now i }
 {
     let at = i * FIELDS_SIZE;
     fields_of(&inputs[at..at + FIELDS_SIZE])
@@ -54,10 +56,11 @@ pub fn run(
     inputs: &[u64],
     answers: &mut [u64],
 ) -> Ran
-    ensures { let t = lent element_data prices links holders states readings blocks lines sent in
-        Followed (world_in book t.entry) (world_in result.book t.exit)
-        (messages_of (was inputs) (min (length (was inputs) / fields_size) (length (was answers))))
-        result.records (was records) (left records) (was answers) (left answers) }
+    ensures { let before = given element_data.now prices.now links.old holders.old states.old readings.old blocks.old lines.old sent.old in
+        let after = given element_data.now prices.now links.new holders.new states.new readings.new blocks.new lines.new sent.new in
+        Followed (world_in book before) (world_in result.book after)
+        (messages_of inputs.now (min (length inputs.now / fields_size) (length answers.old)))
+        result.records records.old records.new answers.old answers.new }
 {
     let n = taken(inputs.len(), answers.len());
     let mut after = book;
@@ -92,7 +95,7 @@ pub fn run(
 }
 
 // What an opening and a run leave: the opening's answer, the book, and how many records stand at the front of the list.
-#[derive(Drop)]
+#[derive(Clone, Copy)]
 pub struct Settled {
     pub answer: u64,
     pub book: Book,
@@ -129,10 +132,11 @@ pub fn open_and_run(
     inputs: &[u64],
     answers: &mut [u64],
 ) -> Settled
-    ensures { let t = lent element_data prices links holders states readings blocks lines sent in
-        OpensAndRuns (world_in (named_book year month points suppliers elements) t.entry) (world_in result.book t.exit)
-        (messages_of (was inputs) (min (length (was inputs) / fields_size) (length (was answers))))
-        result.answer result.records (was records) (left records) (was answers) (left answers) }
+    ensures { let before = given element_data.now prices.now links.old holders.old states.old readings.old blocks.old lines.old sent.old in
+        let after = given element_data.now prices.now links.new holders.new states.new readings.new blocks.new lines.new sent.new in
+        OpensAndRuns (world_in (named_book year month points suppliers elements) before) (world_in result.book after)
+        (messages_of inputs.now (min (length inputs.now / fields_size) (length answers.old)))
+        result.answer result.records records.old records.new answers.old answers.new }
 {
     let named = named_book(year, month, points, suppliers, elements);
     let mut numbers = [0u64; BOOK_SIZE];

@@ -109,7 +109,7 @@ pos-fits n h = record { sfits = h }
 
 -- what a call returned, read back: `back c.f.result c.f.ok`
 pub back : (z : ℤ) → mag z < 2 ^ 63 → to_z w64 (of_z w64 z) ≡ z
-back z h = to_z-of_z (record { sfits = h })
+back z h = to_z-of_z {w = w64} (record { sfits = h })
 
 -- the same from a bound: `abs-back c.args.a.kroner (omega arith)`
 pub abs_back : (z : ℤ) → nat_abs z < 2 ^ 63 → to_z w64 (of_z w64 z) ≡ z

@@ -62,7 +62,8 @@ parts (⊖ a) = omega (arith, neg_pos (val a), neg_neg (val a), parts a)
 parts (a ⊙ k) = scaled (mul_parts (val a) k) (parts a)
   where
     scaled : (pos_part (val a *ℤ pos k) ≡ pos_part (val a) * k) × (neg_part (val a *ℤ pos k) ≡ neg_part (val a) * k)
-        → pos_part (val a) + down a ≡ neg_part (val a) + up a → pos_part (val a *ℤ pos k) + down a * k ≡ neg_part (val a *ℤ pos k) + up a * k
+        → pos_part (val a) + down a ≡ neg_part (val a) + up a
+        → pos_part (val a *ℤ pos k) + down a * k ≡ neg_part (val a *ℤ pos k) + up a * k
     scaled m h = omega (arith, m.0, m.1, ap (λ (n : ℕ). n * k) h)
 
 -- an equation of two expressions: `lin LEFT RIGHT (omega arith)`

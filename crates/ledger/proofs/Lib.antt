@@ -1,4 +1,4 @@
--- Laws of lines with changes, of what a round sends, and of the list of records; and what functions that are walked by hand share.
+-- Laws of lines with changes, of what a round sends, and of the list of records.
 pub mod AmountLaws
 pub mod Bounds
 pub mod Fronts
@@ -7,5 +7,3 @@ pub mod Own
 pub mod LineNumbers
 pub mod RecordNumbers
 pub mod RoundLaws
-pub mod Lending
-pub mod LocalArray

@@ -10,7 +10,7 @@ use Rattle.rules.specs.Sizes.{record_size}
 use Rattle.rules.specs.declared.Record.{Record}
 use Rattle.rules.specs.Basics.{list_to}
 use Rattle.rules.specs.Effects.{no_record}
-use Rattle.rules.proofs.Ranges.{length-list_to, get_d-list_to}
+use Rattle.rules.proofs.Ranges.{length-list_to, get_d_list_to}
 use Rattle.ledger.specs.LineNumbers.{line_numbers, line_in, LinePlaces}
 use Rattle.ledger.specs.RecordNumbers.{name_numbers, record_numbers, moved_place, balance_place, numbers_of, numbers_after}
 use Rattle.ledger.specs.RecordNumbers.{record_at, RecordPlaces}
@@ -48,7 +48,8 @@ numbers_put rs r lent n e h =
     let k : length (rs ++ (r ∷ [])) ≡ suc n = length-append rs (r ∷ []) ∙ rw e (omega arith) in
     let rest = drop (n * record_size) lent in
     sets-eq (record_numbers r) (numbers_after rs lent) (n * record_size) (rw (length_record r, s) (omega arith))
-    ∙ ap (λ (m : ℕ). take (n * record_size) (numbers_after rs lent) ++ record_numbers r ++ drop (n * record_size + m) (numbers_after rs lent))
+    ∙ ap (λ (m : ℕ). take (n * record_size) (numbers_after rs lent) ++ record_numbers r
+    ++ drop (n * record_size + m) (numbers_after rs lent))
     (length_record r)
     ∙ (ap (λ (m : ℕ). take (n * record_size) (numbers_of rs ++ drop (m * record_size) lent) ++ record_numbers r
     ++ drop (n * record_size + record_size) (numbers_of rs ++ drop (m * record_size) lent)) e
@@ -84,9 +85,9 @@ module _ (r : Record) (xs : List ℤ) (i : ℕ) where
   line-behind n k e =
       rw (number_behind n k e, number_behind (n + 1) (k + 1) (omega arith), number_behind (n + 2) (k + 2) (omega arith))
 
-  record-behind : record_at (record_numbers r ++ xs) (suc i) ≡ record_at xs i
+  record_behind : record_at (record_numbers r ++ xs) (suc i) ≡ record_at xs i
   unfolding record_at
-  record-behind = rw (
+  record_behind = rw (
     number_behind (suc i * record_size) (i * record_size) (omega arith),
     number_behind (suc i * record_size + 1) (i * record_size + 1) (omega arith),
     number_behind (suc i * record_size + 2) (i * record_size + 2) (omega arith),
@@ -117,7 +118,7 @@ record_front [] xs i h = absurd (omega arith)
 record_front (r ∷ rs) xs zero h = unfold record_at record_numbers name_numbers line_numbers line_in in refl
 record_front (r ∷ rs) xs (suc i) h =
     ap (λ (l : List ℤ). record_at l (suc i)) (append_assoc (record_numbers r) (numbers_of rs) xs)
-    ∙ record-behind r (numbers_of rs ++ xs) i
+    ∙ record_behind r (numbers_of rs ++ xs) i
     ∙ record_front rs xs i (omega arith)
 
 pub records-read : (rs : List Record) (lent : List ℤ) → list_to (record_at (numbers_after rs lent)) (length rs) ≡ rs
@@ -125,7 +126,7 @@ unfolding numbers_after
 records-read rs lent =
     ext_get_or no_record _ rs (length-list_to (record_at (numbers_after rs lent)) (length rs)) (λ i l.
     let b : i < length rs = rw (length-list_to (record_at (numbers_after rs lent)) (length rs)) at l in
-    get_d-list_to (record_at (numbers_after rs lent)) (length rs) i no_record b ∙ record_front rs _ i b)
+    get_d_list_to (record_at (numbers_after rs lent)) (length rs) i no_record b ∙ record_front rs _ i b)
 
 -- and each stands at its place
 places-front : (rs : List Record) (xs : List ℤ) (i : ℕ) → i < length rs → RecordPlaces (numbers_of rs ++ xs) i

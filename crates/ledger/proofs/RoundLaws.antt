@@ -92,9 +92,9 @@ module _ (ls ts : List ℤ) (at : ℕ) where
         ∙ sym (stored_is ts at h.total_right).billionths) ∙ t
 
     -- copying such a line changes nothing
-    pub copied-same : ts ≡ line_copied ls ts at
+    pub copied_same : ts ≡ line_copied ls ts at
     unfolding line_copied
-    copied-same =
+    copied_same =
         rw (quantity-same, kroner-same, billionths-same, set-get_or ts at (pos 0), set-get_or ts (at + 1) (pos 0))
         (sym (set-get_or ts (at + 2) (pos 0)))
 
@@ -133,9 +133,9 @@ module _ (ls ts : List ℤ) where
   unfolding moved_count
   count_none = refl
 
-  pub count-more : (k : ℕ) → moved_count ls ts (k + 1) ≡ moved_count ls ts k + cond (unmoved_at ls ts (k * line_size)) 0 1
+  pub count_more : (k : ℕ) → moved_count ls ts (k + 1) ≡ moved_count ls ts k + cond (unmoved_at ls ts (k * line_size)) 0 1
   unfolding moved_count
-  count-more k = rw (add-one k)
+  count_more k = rw (add-one k)
 
   -- at most as many as there are
   pub count-few : (k : ℕ) → moved_count ls ts k ≤ k
@@ -144,21 +144,21 @@ module _ (ls ts : List ℤ) where
   count-few (suc k) = let h = count-few k in cases (unmoved_at ls ts (k * line_size)) (λ t. rw t (omega arith)) (λ t. rw t (omega arith))
 
   -- the first lines have no more than all
-  pub count-grows : (k n : ℕ) → moved_count ls ts k ≤ moved_count ls ts (k + n)
-  count-grows k zero = rw add-zero (omega arith)
-  count-grows k (suc n) =
+  pub count_grows : (k n : ℕ) → moved_count ls ts k ≤ moved_count ls ts (k + n)
+  count_grows k zero = rw add-zero (omega arith)
+  count_grows k (suc n) =
       let e : k + suc n ≡ k + n + 1 = omega arith in
-      rw (e, count-more (k + n)) (omega (arith, count-grows k n))
+      rw (e, count_more (k + n)) (omega (arith, count_grows k n))
 
 module _ (b : Book) (ls ts : List ℤ) where
-  pub records-none : line_records b ls ts 0 ≡ []
+  pub records_none : line_records b ls ts 0 ≡ []
   unfolding line_records
-  records-none = refl
+  records_none = refl
 
-  pub records-more : (k : ℕ) → line_records b ls ts (k + 1) ≡ line_records b ls ts k ++ cond (unmoved_at ls ts (k * line_size)) []
+  pub records_more : (k : ℕ) → line_records b ls ts (k + 1) ≡ line_records b ls ts k ++ cond (unmoved_at ls ts (k * line_size)) []
       (line_record b ls ts k ∷ [])
   unfolding line_records
-  records-more k = rw (add-one k)
+  records_more k = rw (add-one k)
 
   pub count-is : (k : ℕ) → length (line_records b ls ts k) ≡ moved_count ls ts k
   unfolding line_records moved_count
@@ -177,7 +177,8 @@ module _ (b : Book) (ls ts : List ℤ) where
     world = world_in b (lend_money ls ts o)
 
     records-to : (k : ℕ) → k ≤ lines_in b → records_to world k ≡ line_records b ls ts k
-    unfolding records_to record_for record_of line_of balance unmoved difference stored line_records line_record unmoved_at moved_by line_count supplier_of element_of
+    unfolding records_to record_for record_of line_of balance unmoved difference stored line_records line_record unmoved_at moved_by line_count
+        supplier_of element_of
     records-to zero l = refl
     records-to (suc k) l = rw (records-to k (omega arith), line-at world.opening k (unfold line_count in omega arith))
 
@@ -196,12 +197,12 @@ module _ (ls ts : List ℤ) (e : length ls ≡ length ts) where
       ∙ ap (paste ts 0 ls) (sym (n ∙ add-one i))
 
   -- all of them
-  pub copied-whole : (n : ℕ) → n ≡ length ls → paste ts 0 ls n ≡ ls
-  copied-whole n h = rw (h, take-length ls, zero-add, drop_of_length-le ts {i = length ls} (omega arith)) (append-nil ls)
+  pub copied_whole : (n : ℕ) → n ≡ length ls → paste ts 0 ls n ≡ ls
+  copied_whole n h = rw (h, take-length ls, zero-add, drop_of_length-le ts {i = length ls} (omega arith)) (append-nil ls)
 
   -- those behind are as they were
-  past-copied : (i j : ℕ) → i ≤ j → i ≤ length ls → get_or (paste ts 0 ls i) j (pos 0) ≡ get_or ts j (pos 0)
-  past-copied i j h l =
+  past_copied : (i j : ℕ) → i ≤ j → i ≤ length ls → get_or (paste ts 0 ls i) j (pos 0) ≡ get_or ts j (pos 0)
+  past_copied i j h l =
       let n : length (take i ls) ≡ i = length-take-le i ls l in
       let m : j ≡ length (take i ls) + (j - i) = rw n (omega arith) in
       let d : i + (j - i) ≡ j = omega arith in
@@ -211,17 +212,17 @@ module _ (ls ts : List ℤ) (e : length ls ≡ length ts) where
       ∙ get_or-drop i ts (j - i) (pos 0)
       ∙ ap (λ (x : ℕ). get_or ts x (pos 0)) d)
 
-  pub length-copied : (i : ℕ) → i ≤ length ls → length (paste ts 0 ls i) ≡ length ts
-  length-copied i l = length-paste ts 0 ls i (omega arith) l
+  pub length_copied : (i : ℕ) → i ≤ length ls → length (paste ts 0 ls i) ≡ length ts
+  length_copied i l = length-paste ts 0 ls i (omega arith) l
 
   module _ (k : ℕ) (l : k * line_size + 2 < length ls) where
     stored_past : (m : Measure) → stored_at (paste ts 0 ls (k * line_size)) m (k * line_size) ≡ stored_at ts m (k * line_size)
     unfolding stored_at
-    stored_past Measure.quantity = past-copied (k * line_size) (k * line_size) (omega arith) (omega arith)
+    stored_past Measure.quantity = past_copied (k * line_size) (k * line_size) (omega arith) (omega arith)
     stored_past Measure.amount =
         rw (
-          past-copied (k * line_size) (k * line_size + 1) (omega arith) (omega arith),
-          past-copied (k * line_size) (k * line_size + 2) (omega arith) (omega arith),
+          past_copied (k * line_size) (k * line_size + 1) (omega arith) (omega arith),
+          past_copied (k * line_size) (k * line_size + 2) (omega arith) (omega arith),
         )
 
     -- so the line is compared with what was sent
@@ -229,23 +230,23 @@ module _ (ls ts : List ℤ) (e : length ls ≡ length ts) where
     unfolding unmoved_at moved_by
     unmoved-past = rw (stored_past Measure.quantity, stored_past Measure.amount)
 
-    pub record-past : (b : Book) → line_record b ls (paste ts 0 ls (k * line_size)) k ≡ line_record b ls ts k
+    pub record_past : (b : Book) → line_record b ls (paste ts 0 ls (k * line_size)) k ≡ line_record b ls ts k
     unfolding line_record moved_by
-    record-past b = rw (stored_past Measure.quantity, stored_past Measure.amount)
+    record_past b = rw (stored_past Measure.quantity, stored_past Measure.amount)
 
     pub right-past : line_right (paste ts 0 ls (k * line_size)) (k * line_size) ≡ line_right ts (k * line_size)
     right-past =
         line-is (paste ts 0 ls (k * line_size)) (k * line_size)
         ∙ rw (
-          past-copied (k * line_size) (k * line_size) (omega arith) (omega arith),
-          past-copied (k * line_size) (k * line_size + 1) (omega arith) (omega arith),
-          past-copied (k * line_size) (k * line_size + 2) (omega arith) (omega arith),
+          past_copied (k * line_size) (k * line_size) (omega arith) (omega arith),
+          past_copied (k * line_size) (k * line_size + 1) (omega arith) (omega arith),
+          past_copied (k * line_size) (k * line_size + 2) (omega arith) (omega arith),
         ) (sym (line-is ts (k * line_size)))
 
     -- and one line more is copied
-    pub line-copied : line_copied ls (paste ts 0 ls (k * line_size)) (k * line_size) ≡ paste ts 0 ls ((k + 1) * line_size)
+    pub line_copied_lem : line_copied ls (paste ts 0 ls (k * line_size)) (k * line_size) ≡ paste ts 0 ls ((k + 1) * line_size)
     unfolding line_copied
-    line-copied =
+    line_copied_lem =
         rw (
           copied_more (k * line_size) (k * line_size + 1) (omega arith) refl,
           copied_more (k * line_size + 1) (k * line_size + 2) (omega arith) (omega arith),
@@ -259,18 +260,18 @@ pub list_more : (b : Book) (ls ts : List ℤ) (k n : ℕ) (lent out out' : List 
     → (unmoved_at ls ts (k * line_size) ≡ false → (n + 1) * record_size ≤ length lent)
     → out' ≡ numbers_after (line_records b ls ts (k + 1)) lent
 list_more b ls ts k n lent out out' e p q h = cases (unmoved_at ls ts (k * line_size))
-    (λ t. q ∙ rw (t, p, records-more b ls ts k, t, append-nil))
-    (λ t. q ∙ rw (t, p, records-more b ls ts k, t)
+    (λ t. q ∙ rw (t, p, records_more b ls ts k, t, append-nil))
+    (λ t. q ∙ rw (t, p, records_more b ls ts k, t)
     (numbers_put (line_records b ls ts k) (line_record b ls ts k) lent n (count-is b ls ts k ∙ sym e) (h t)))
 
 -- a list has room for the record of a line that has moved
 pub list-room : (ls ts : List ℤ) (count k n room : ℕ) → k < count → n ≡ moved_count ls ts k
     → moved_count ls ts count * record_size ≤ room → unmoved_at ls ts (k * line_size) ≡ false → (n + 1) * record_size ≤ room
 list-room ls ts count k n room l e h u =
-    let g = count-grows ls ts (k + 1) (count - (k + 1)) in
+    let g = count_grows ls ts (k + 1) (count - (k + 1)) in
     let z : k + 1 + (count - (k + 1)) ≡ count = omega arith in
     let i : moved_count ls ts (k + 1) ≤ moved_count ls ts count = rw z at g in
-    let m : moved_count ls ts (k + 1) ≡ moved_count ls ts k + 1 = count-more ls ts k ∙ rw u in
+    let m : moved_count ls ts (k + 1) ≡ moved_count ls ts k + 1 = count_more ls ts k ∙ rw u in
     omega arith
 
 -- ---- a turn of a round: the first lines are copied, and their records stand at the front of the list
@@ -281,7 +282,7 @@ module _ (b : Book) (ls ts lent : List ℤ) (h : Settled b ls ts) (room : moved_
 
   records-long : (k : ℕ) → k ≤ lines_in b → length (line_records b ls ts k) * record_size ≤ length lent
   records-long k l =
-      let g = count-grows ls ts k (lines_in b - k) in
+      let g = count_grows ls ts k (lines_in b - k) in
       let z : k + (lines_in b - k) ≡ lines_in b = omega arith in
       let i : moved_count ls ts k ≤ moved_count ls ts (lines_in b) = rw z at g in
       rw (count-is b ls ts k) (omega arith)
@@ -293,8 +294,8 @@ module _ (b : Book) (ls ts lent : List ℤ) (h : Settled b ls ts) (room : moved_
     inside : k * line_size + 2 < length ls
     inside = omega (arith, h.lines)
 
-    pub turn-sendable : Sendable b ls (paste ts 0 ls (k * line_size)) k
-    turn-sendable =
+    pub turn_sendable : Sendable b ls (paste ts 0 ls (k * line_size)) k
+    turn_sendable =
         let s = (sendable b ls ts h k l).compared in
         record {
           suppliers = h.suppliers;
@@ -303,27 +304,27 @@ module _ (b : Book) (ls ts lent : List ℤ) (h : Settled b ls ts) (room : moved_
           below = l;
           compared = record {
             line = s.line;
-            total = rw (length-copied ls ts same-long (k * line_size) (omega (arith, inside))) s.total;
+            total = rw (length_copied ls ts same-long (k * line_size) (omega (arith, inside))) s.total;
             line-right = s.line-right;
             total_right = right-past ls ts same-long k inside ∙ s.total_right;
           };
         }
 
-    pub turn-room : (n : ℕ) → n ≡ moved_count ls ts k → unmoved_at ls (paste ts 0 ls (k * line_size)) (k * line_size) ≡ false
+    pub turn_room : (n : ℕ) → n ≡ moved_count ls ts k → unmoved_at ls (paste ts 0 ls (k * line_size)) (k * line_size) ≡ false
         → (n + 1) * record_size ≤ length (numbers_after (line_records b ls ts k) lent)
-    turn-room n e u =
+    turn_room n e u =
         rw (list-long k (omega arith)) (list-room ls ts (lines_in b) k n (length lent) l e room
         (sym (unmoved-past ls ts same-long k inside) ∙ u))
 
-    pub turn-done : (n next : ℕ) (ts' out out' : List ℤ) → n ≡ moved_count ls ts k → out ≡ numbers_after (line_records b ls ts k) lent
+    pub turn_done : (n next : ℕ) (ts' out out' : List ℤ) → n ≡ moved_count ls ts k → out ≡ numbers_after (line_records b ls ts k) lent
         → LineSent b ls (paste ts 0 ls (k * line_size)) ts' k n next out out'
         → (ts' ≡ paste ts 0 ls ((k + 1) * line_size)) × (next ≡ moved_count ls ts (k + 1))
         × (out' ≡ numbers_after (line_records b ls ts (k + 1)) lent)
-    turn-done n next ts' out out' e p g =
+    turn_done n next ts' out out' e p g =
         let u = unmoved-past ls ts same-long k inside in (
-          g.sent ∙ line-copied ls ts same-long k inside,
-          g.place ∙ rw (u, e) (one (unmoved_at ls ts (k * line_size)) (moved_count ls ts k)) ∙ sym (count-more ls ts k),
-          list_more b ls ts k n lent out out' e p (g.list ∙ rw (u, record-past ls ts same-long k inside b))
+          g.sent ∙ line_copied_lem ls ts same-long k inside,
+          g.place ∙ rw (u, e) (one (unmoved_at ls ts (k * line_size)) (moved_count ls ts k)) ∙ sym (count_more ls ts k),
+          list_more b ls ts k n lent out out' e p (g.list ∙ rw (u, record_past ls ts same-long k inside b))
               (λ t. list-room ls ts (lines_in b) k n (length lent) l e room t),
         )
       where

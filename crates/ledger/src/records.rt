@@ -2,7 +2,6 @@
 ghost use Rattle.std.specs.Prelude.{◌≡◌, ◌++◌, ℕ, ◌≤◌, ◌<◌, length, drop, replicate};
 ghost use Rattle.rules.specs.Basics.{list_to};
 ghost use Rattle.rules.specs.Sizes.{most_lines};
-ghost use Rattle.rules.specs.Lent.{was, left};
 ghost use Rattle.rules.specs.Effects.{no_record};
 ghost use Rattle.ledger.specs.RecordNumbers.{record_at, RecordPlaces};
 
@@ -13,7 +12,7 @@ use rules::{Line, MOST_LINES, RECORD_SIZE, Record};
 // The record that stands at place `i` of a list of numbers.
 pub fn record_at(numbers: &[i64], i: usize) -> Record
     requires { RecordPlaces numbers.now i }
-    ensures { result ≡ record_at (was numbers) i }
+    ensures { result ≡ record_at numbers.now i }
 {
     let at = i * RECORD_SIZE;
     Record {
@@ -28,7 +27,7 @@ pub fn record_at(numbers: &[i64], i: usize) -> Record
 // The first `count` records, at the front of the list; entries past them stay as lent. Linear in them.
 pub fn put_list(list: &mut [Record], numbers: &[i64], count: usize)
     requires { (count ≤ length list.old) × ((i : ℕ) → i < count → RecordPlaces numbers.now i) }
-    ensures { left list ≡ list_to (record_at (was numbers)) count ++ drop count (was list) }
+    ensures { list.new ≡ list_to (record_at numbers.now) count ++ drop count list.old }
 {
     let mut i = 0;
     while i < count {
@@ -41,7 +40,7 @@ pub fn put_list(list: &mut [Record], numbers: &[i64], count: usize)
 // on, and lend no list of their own. Linear in the list.
 pub fn listed(numbers: &[i64], count: usize) -> [Record; MOST_LINES]
     requires { (count ≤ most_lines) × ((i : ℕ) → i < count → RecordPlaces numbers.now i) }
-    ensures { result ≡ list_to (record_at (was numbers)) count ++ drop count (replicate most_lines no_record) }
+    ensures { result ≡ list_to (record_at numbers.now) count ++ drop count (replicate most_lines no_record) }
 {
     let line = Line {
         quantity: 0,

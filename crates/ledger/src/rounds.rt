@@ -3,7 +3,6 @@ ghost use Rattle.std.specs.Prelude.{◌≡◌, false, cond, ◌+◌, ◌*◌, �
 ghost use Rattle.std.proofs.lemmas.List.Edits.{sets};
 ghost use Rattle.rules.specs.Sizes.{line_size, most_lines, record_size, last_round};
 ghost use Rattle.rules.specs.Lines.{Measure};
-ghost use Rattle.rules.specs.Lent.{was, left};
 ghost use Rattle.ledger.specs.Bounds.{LineOf, moved_quantity, moved_kroner};
 ghost use Rattle.ledger.specs.RecordNumbers.{SmallRecord, name_numbers, record_numbers, moved_place, numbers_after};
 ghost use Rattle.ledger.specs.Moved.{moved_by, unmoved_at, lines_in, line_record, line_records, moved_count, line_copied};
@@ -15,7 +14,7 @@ use rules::{Book, LAST_ROUND, LINE_SIZE, Line, RECORD_SIZE, Record};
 // Whether the line from place `at` on is what was sent: an amount has one form, so that the three numbers are compared.
 fn is_unmoved(lines: &[i64], sent: &[i64], at: usize) -> bool
     requires { Comparable lines.now sent.now at }
-    ensures { result ≡ unmoved_at (was lines) (was sent) at }
+    ensures { result ≡ unmoved_at lines.now sent.now at }
 {
     if lines[at] == sent[at] {
         if lines[at + 1] == sent[at + 1] {
@@ -28,7 +27,7 @@ fn is_unmoved(lines: &[i64], sent: &[i64], at: usize) -> bool
 // 1 where the line has moved, else 0.
 fn moved_one(lines: &[i64], sent: &[i64], at: usize) -> usize
     requires { Comparable lines.now sent.now at }
-    ensures { result ≡ cond (unmoved_at (was lines) (was sent) at) 0 1 }
+    ensures { result ≡ cond (unmoved_at lines.now sent.now at) 0 1 }
 {
     if is_unmoved(lines, sent, at) { 0 } else { 1 }
 }
@@ -36,7 +35,7 @@ fn moved_one(lines: &[i64], sent: &[i64], at: usize) -> usize
 // How many lines have moved, and so how many records a round has. Linear in the lines.
 pub fn moved_count(book: Book, lines: &[i64], sent: &[i64]) -> usize
     requires { Settled book lines.now sent.now }
-    ensures { result ≡ moved_count (was lines) (was sent) (lines_in book) }
+    ensures { result ≡ moved_count lines.now sent.now (lines_in book) }
 {
     let count = (book.suppliers * book.elements) as usize;
     let mut n = 0;
@@ -54,7 +53,7 @@ pub fn moved_count(book: Book, lines: &[i64], sent: &[i64]) -> usize
 fn moved_by(lines: &[i64], sent: &[i64], at: usize) -> Line
     requires { Comparable lines.now sent.now at }
     ensures { LineOf result
-        (moved_by (was lines) (was sent) Measure.quantity at) (moved_by (was lines) (was sent) Measure.amount at)
+        (moved_by lines.now sent.now Measure.quantity at) (moved_by lines.now sent.now Measure.amount at)
         moved_quantity moved_kroner }
 {
     line_difference(line_at(lines, at), line_at(sent, at))
@@ -63,7 +62,7 @@ fn moved_by(lines: &[i64], sent: &[i64], at: usize) -> Line
 // The record of line number `k`.
 fn record_of(book: Book, lines: &[i64], sent: &[i64], k: usize) -> Record
     requires { Sendable book lines.now sent.now k }
-    ensures { SmallRecord result × (result ≡ line_record book (was lines) (was sent) k) }
+    ensures { SmallRecord result × (result ≡ line_record book lines.now sent.now k) }
 {
     let at = k * LINE_SIZE;
     let number = k as u64;
@@ -84,7 +83,7 @@ pub const BALANCE_PLACE: usize = MOVED_PLACE + LINE_SIZE;
 // The numbers of what a record is about, from place `at` on.
 fn put_names(out: &mut [i64], at: usize, r: Record)
     requires { SmallRecord r × (at + moved_place ≤ length out.old) }
-    ensures { left out ≡ sets (was out) at (name_numbers r) }
+    ensures { out.new ≡ sets out.old at (name_numbers r) }
 {
     let kind = r.kind as i64;
     let supplier = r.supplier as i64;
@@ -97,7 +96,7 @@ fn put_names(out: &mut [i64], at: usize, r: Record)
 // One record's numbers, from place `at` on.
 fn put_record(out: &mut [i64], at: usize, r: Record)
     requires { SmallRecord r × (at + record_size ≤ length out.old) }
-    ensures { left out ≡ sets (was out) at (record_numbers r) }
+    ensures { out.new ≡ sets out.old at (record_numbers r) }
 {
     let moved = r.moved;
     let balance = r.balance;
@@ -111,7 +110,7 @@ fn put_record(out: &mut [i64], at: usize, r: Record)
 // The three numbers of the line from place `at` on are what was sent.
 fn copy_line(lines: &[i64], sent: &mut [i64], at: usize)
     requires { (at + 2 < length lines.now) × (at + 2 < length sent.old) }
-    ensures { left sent ≡ line_copied (was lines) (was sent) at }
+    ensures { sent.new ≡ line_copied lines.now sent.old at }
 {
     sent[at] = lines[at];
     sent[at + 1] = lines[at + 1];
@@ -130,7 +129,7 @@ fn send_line(
     requires sendable { Sendable book lines.now sent.old k }
     requires n_le_most_lines { (n ≤ most_lines)
         × (unmoved_at lines.now sent.old (k * line_size) ≡ false → (n + 1) * record_size ≤ length records.old) }
-    ensures { LineSent book (was lines) (was sent) (left sent) k n result (was records) (left records) }
+    ensures { LineSent book lines.now sent.old sent.new k n result records.old records.new }
 {
     let at = k * LINE_SIZE;
     if is_unmoved(lines, sent, at) {
@@ -145,8 +144,8 @@ fn send_line(
 pub fn send_lines(book: Book, lines: &[i64], sent: &mut [i64], records: &mut [i64])
     requires settled { Settled book lines.now sent.old }
     requires record_size_in_bounds { moved_count lines.now sent.old (lines_in book) * record_size ≤ length records.old }
-    ensures sent { left sent ≡ was lines }
-    ensures records { left records ≡ numbers_after (line_records book (was lines) (was sent) (lines_in book)) (was records) }
+    ensures sent { sent.new ≡ lines.now }
+    ensures records { records.new ≡ numbers_after (line_records book lines.now sent.old (lines_in book)) records.old }
 {
     let count = (book.suppliers * book.elements) as usize;
     let mut n = 0;

@@ -1,8 +1,10 @@
 // The entry point for messages that is lent a list of records: the message is taken with its records as numbers, and they are written to
 // the front of the list.
+#![tactic(auto)]
+
 ghost use Rattle.std.specs.Prelude.{◌≡◌, ◌*◌, min, length};
 ghost use Rattle.rules.specs.Sizes.{most_lines, record_size};
-ghost use Rattle.rules.specs.Lent.{world_in, lent, left, was};
+ghost use Rattle.rules.specs.Lent.{world_in, given};
 ghost use Rattle.listing.specs.Listed.{Numbered, Listed};
 
 use ledger::records::put_list;
@@ -34,8 +36,9 @@ fn message_numbers(
     fields: Fields,
 ) -> Reply
     requires { length numbers.old ≡ most_lines * record_size }
-    ensures { let t = lent element_data prices links holders states readings blocks lines sent in
-        Numbered (world_in book t.entry) (world_in result.book t.exit) fields result room (left numbers) }
+    ensures { let before = given element_data.now prices.now links.old holders.old states.old readings.old blocks.old lines.old sent.old in
+        let after = given element_data.now prices.now links.new holders.new states.new readings.new blocks.new lines.new sent.new in
+        Numbered (world_in book before) (world_in result.book after) fields result room numbers.new }
 {
     let end = most_records(room) * RECORD_SIZE;
     settlement_book::message(
@@ -70,8 +73,9 @@ pub fn message(
     records: &mut [Record],
     fields: Fields,
 ) -> Reply
-    ensures { let t = lent element_data prices links holders states readings blocks lines sent in
-        Listed (world_in book t.entry) (world_in result.book t.exit) fields result (was records) (left records) }
+    ensures { let before = given element_data.now prices.now links.old holders.old states.old readings.old blocks.old lines.old sent.old in
+        let after = given element_data.now prices.now links.new holders.new states.new readings.new blocks.new lines.new sent.new in
+        Listed (world_in book before) (world_in result.book after) fields result records.old records.new }
 {
     let mut numbers = [0i64; RECORD_NUMBERS];
     let reply = message_numbers(

@@ -7,7 +7,7 @@ use lib.Seq.{take-suc}
 use native.Mathlib.Numerals.{add-one}
 use native.Mathlib.Omega.{arith}
 use Rattle.file.specs.Lines.{number_width, Written}
-use Rattle.file.proofs.PlacedLaws.{placed-front, nothing_written, text-more}
+use Rattle.file.proofs.PlacedLaws.{placed-front, nothing_written, text_more}
 use Rattle.month_starts.specs.MonthStarts.{number_line, number_lines}
 
 pub no_lines : (numbers out : List ℕ) → Written (0 * number_width) out out 0 0 (number_lines (take 0 numbers))
@@ -19,7 +19,7 @@ pub line_more : (numbers : List ℕ) (i : ℕ) (a b c : List ℕ) (at next : ℕ
     → Written number_width b c at next (number_line (get_or numbers i 0)) → i * number_width ≤ length a
     → Written ((i + 1) * number_width) a c 0 next (number_lines (take (i + 1) numbers))
 line_more numbers i a b c at next v less w room =
-    rw (add-one i, take-suc numbers i 0 less) (text-more number_line number_width i (take i numbers) (get_or numbers i 0) v w (omega arith))
+    rw (add-one i, take-suc numbers i 0 less) (text_more number_line number_width i (take i numbers) (get_or numbers i 0) v w (omega arith))
 
 -- what was written from the first place on is the front
 pub text-front : {most n : ℕ} {a b text : List ℕ} → Written most a b 0 n text → take n b ≡ text

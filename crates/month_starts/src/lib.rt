@@ -1,16 +1,19 @@
 // `month_starts` prints the first days of the 1,200 months from January 2000 on, and behind them the day after the last, one number a line.
 // It adds up the lengths of the months by the leap-year rule and does not read the table that the book uses: only `comparison` does.
+#![tactic(auto)]
+
 pub mod comparison;
 
 ghost use Rattle.std.specs.Prelude.{◌≡◌, Bool, ◌*◌, ◌≤◌, ◌<◌, length};
 ghost use Rattle.calendar.specs.Gregorian.{is_leap, days_of_month, days_after, listed_months};
-ghost use Rattle.rules.specs.Lent.{left, was};
 ghost use Rattle.file.specs.Lines.{number_width, Written};
 ghost use Rattle.month_starts.specs.MonthStarts.{month_starts, number_lines, month_text, status_of};
 
 use calendar::{FIRST_YEAR, MONTHS, YEAR_MONTHS};
 use file::output::{NUMBER_WIDTH, put_number_then};
-use libc::STDOUT_FILENO;
+use std::io;
+use std::io::Write;
+use streams::write_whole;
 
 // ---- the leap-year rule and the lengths of months
 
@@ -78,7 +81,7 @@ fn no_text() -> [u8; TEXT_PLACES]
 // The numbers of a list, each on a line of its own; the answer is the length of the text.
 pub fn put_lines(out: &mut [u8], numbers: &[u64]) -> usize
     requires { length numbers.now * number_width ≤ length out.old }
-    ensures { Written (length (was numbers) * number_width) (was out) (left out) 0 result (number_lines (was numbers)) }
+    ensures { Written (length numbers.now * number_width) out.old out.new 0 result (number_lines numbers.now) }
 {
     let mut at = 0;
     let mut i = 0;
@@ -96,24 +99,26 @@ fn status(written: bool) -> u32
 }
 
 // Writes the text of the month starts, and no other.
-fn write_text(text: &[u8]) -> bool
+fn write_text<E: Eprint, W: Write>(rt: &E, output: &mut W, text: &[u8]) -> bool
     requires { text.now ≡ month_text }
 {
-    let written = io::write_all(STDOUT_FILENO, text);
-    if !written {
-        os::fail(b"month_starts: the output could not be written");
+    match write_whole(output, text) {
+        Ok(()) => true,
+        Err(e) => {
+            let _ = eprintln!(rt; "month_starts: the output could not be written: {e}");
+            false
+        }
     }
-    written
 }
 
-// The program: `program/month_starts.c` calls it and ends with its answer, since a program of the kit cannot set its status.
-#[unsafe(no_mangle)]
-pub extern "C" fn month_starts_run() -> u32
+// What the program does, and its status: `main` of `month_starts_program` ends with it.
+pub fn month_starts_run<R: Print + Eprint>(rt: &R) -> u32
     ensures { (written : Bool) × (result ≡ status_of written) }
 {
     let starts = month_starts();
     let mut text = no_text();
     let count = put_lines(&mut text, &starts);
-    let written = write_text(&text[..count]);
+    let mut output = io::writer(rt);
+    let written = write_text(rt, &mut output, &text[..count]);
     status(written)
 }

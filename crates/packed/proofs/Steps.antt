@@ -26,13 +26,13 @@ pub digit-before : (n i : ℕ) → 0 < i → digit_at n i ≡ digit_at (n / 10) 
 digit-before n zero h = absurd (omega arith)
 digit-before n (suc i) h = let e : suc i - 1 ≡ i = omega arith in rw e (digit_more n i)
 
-pub sign_below : (a : ℤ) → lt_z a (pos 0) ≡ true → sign_below ≡ sign_of a
-sign_below (pos n) h = let l : n < 0 = ltb-true n 0 h in absurd (omega arith)
-sign_below (negsuc n) h = refl
+pub sign_below_lem : (a : ℤ) → lt_z a (pos 0) ≡ true → sign_below ≡ sign_of a
+sign_below_lem (pos n) h = let l : n < 0 = ltb-true n 0 h in absurd (omega arith)
+sign_below_lem (negsuc n) h = refl
 
-pub sign_above : (a : ℤ) → lt_z a (pos 0) ≡ false → sign_above ≡ sign_of a
-sign_above (pos n) h = refl
-sign_above (negsuc n) h = let z : ◌≡◌ {A = ℕ} 0 1 = cc in absurd (omega arith)
+pub sign_above_lem : (a : ℤ) → lt_z a (pos 0) ≡ false → sign_above ≡ sign_of a
+sign_above_lem (pos n) h = refl
+sign_above_lem (negsuc n) h = let z : ◌≡◌ {A = ℕ} 0 1 = cc in absurd (omega arith)
 
 pub half_digit : (size sign h : ℕ) → h < digit_count → digit_at size (digit_count - 1 - h) ≡ packed_half size sign h
 unfolding packed_half

@@ -1,7 +1,8 @@
 // Packed decimal, the form that the grid company's ledger takes: eight bytes, fifteen digits, highest first, then a half-byte for the sign.
 // A number is written to lent bytes, and lent bytes, whatever they are, are read.
+#![tactic(auto)]
+
 ghost use Rattle.std.specs.Prelude.{◌≡◌, true, ◌*◌, ◌≤◌, ◌<◌, length};
-ghost use Rattle.rules.specs.Lent.{left, was};
 ghost use Rattle.rules.specs.Packed.{packed_size, digit_count, digit_at, sign_of, packed_half, packed_byte, packed_bytes};
 ghost use Rattle.rules.specs.Packed.{half_in, digits_in, digits_right, is_packed, packed_amount};
 
@@ -56,7 +57,7 @@ fn byte_of(size: u64, sign: u64, place: u64) -> u8
 // A number and the half-byte for its sign, in eight lent bytes.
 pub fn put_packed(bytes: &mut [u8], size: u64, sign: u64)
     requires { (length bytes.old ≡ packed_size) × (sign ≤ 15) }
-    ensures { left bytes ≡ packed_bytes size sign }
+    ensures { bytes.new ≡ packed_bytes size sign }
 {
     let mut place = 0;
     while place < PACKED_SIZE {
@@ -70,7 +71,7 @@ pub fn put_packed(bytes: &mut [u8], size: u64, sign: u64)
 // Half-byte `place`, counted from 0: an even one is the upper half of a byte.
 fn half_in(bytes: &[u8], place: u64) -> u64
     requires { place < 2 * length bytes.now }
-    ensures { result ≡ half_in (was bytes) place }
+    ensures { result ≡ half_in bytes.now place }
 {
     let byte = wide(bytes[(place / 2) as usize]);
     if place % 2 == 0 { byte / 16 } else { byte % 16 }
@@ -79,7 +80,7 @@ fn half_in(bytes: &[u8], place: u64) -> u64
 // Whether no digit is above 9.
 fn digits_right(bytes: &[u8]) -> bool
     requires { length bytes.now ≡ packed_size }
-    ensures { result ≡ digits_right (was bytes) }
+    ensures { result ≡ digits_right bytes.now }
 {
     let mut place = 0;
     while place < DIGITS {
@@ -95,7 +96,7 @@ fn digits_right(bytes: &[u8]) -> bool
 // The number that the digits are.
 fn digits_in(bytes: &[u8]) -> u64
     requires { (length bytes.now ≡ packed_size) × (digits_right bytes.now ≡ true) }
-    ensures { result ≡ digits_in (was bytes) digit_count }
+    ensures { result ≡ digits_in bytes.now digit_count }
 {
     let mut number = 0;
     let mut place = 0;
@@ -108,7 +109,7 @@ fn digits_in(bytes: &[u8]) -> u64
 
 // Whether lent bytes, of any length and whatever they are, are a packed number. Minus zero is none.
 pub fn is_packed(bytes: &[u8]) -> bool
-    ensures { result ≡ is_packed (was bytes) }
+    ensures { result ≡ is_packed bytes.now }
 {
     if bytes.len() != PACKED_SIZE {
         return false;
@@ -128,7 +129,7 @@ pub fn is_packed(bytes: &[u8]) -> bool
 // The amount that a packed number is.
 pub fn packed_amount(bytes: &[u8]) -> i64
     requires { is_packed bytes.now ≡ true }
-    ensures { result ≡ packed_amount (was bytes) }
+    ensures { result ≡ packed_amount bytes.now }
 {
     let size = digits_in(bytes) as i64;
     if half_in(bytes, DIGITS) == SIGN_BELOW {

@@ -23,7 +23,7 @@ use Rattle.rules.specs.Queries.{line_number, line_query, line_named, periods_num
 use Rattle.rules.specs.Answers.{number_of, line_result}
 use Rattle.rules.proofs.Ranges.{all-at}
 use Rattle.rules.proofs.Stored.{line-below}
-use Rattle.rules.proofs.LineQuery.{query-stored}
+use Rattle.rules.proofs.LineQuery.{query_stored}
 use Rattle.rules.proofs.Demand3.{demand3}
 use Rattle.ledger.specs.Bounds.{LineOf}
 use Rattle.rules.proofs.Parts.{lengths, formed}
@@ -34,8 +34,8 @@ use Rattle.tables.proofs.Parts.{part-within}
 use Rattle.tables.proofs.Right.{whole-rows}
 use Rattle.queries.specs.Promises.{is_line, LineAnswered, PeriodsAt}
 use Rattle.queries.specs.PairSearch.{PairFound}
-use Rattle.queries.proofs.PairSearch.{place-sorted, part-sorted}
-use Rattle.queries.proofs.Asks.{line-passed, periods-passed}
+use Rattle.queries.proofs.PairSearch.{place_sorted, part_sorted}
+use Rattle.queries.proofs.Asks.{line_passed, periods_passed}
 
 -- every product fits
 pub place-small : (elements s : ℕ) → s ≤ most_suppliers → elements ≤ most_elements → (s - 1) * elements ≤ most_lines
@@ -55,16 +55,16 @@ module _ (w : World) (s e : ℕ) where
 
   -- ---- refused
 
-  pub line_refused : line_number w s e ≢ 0 → (a : Answer) → number_of a ≡ line_number w s e → LineAnswered w s e (LineAnswer.Refused a)
+  pub line_refused_lem : line_number w s e ≢ 0 → (a : Answer) → number_of a ≡ line_number w s e → LineAnswered w s e (LineAnswer.Refused a)
   unfolding line_query
-  line_refused h a k = line-told (LineAnswer.Refused a) (sym (ne_eqb _ _ h)) (rw (ne_eqb _ _ h, k))
+  line_refused_lem h a k = line-told (LineAnswer.Refused a) (sym (ne_eqb _ _ h)) (rw (ne_eqb _ _ h, k))
 
   -- ---- answered
 
   module _ (h : line_number w s e ≡ 0) where
-    pub line-in : ((1 ≤ s) × (s ≤ most_suppliers)) × ((w.opening.elements ≤ most_elements) × (e < w.opening.elements))
-    line-in =
-        let k = line-passed w s e h in
+    pub line_in_lem : ((1 ≤ s) × (s ≤ most_suppliers)) × ((w.opening.elements ≤ most_elements) × (e < w.opening.elements))
+    line_in_lem =
+        let k = line_passed w s e h in
         let m = (lengths w k.0).limited in
         let b = k.1 in
         let x = m.suppliers in
@@ -76,7 +76,7 @@ module _ (w : World) (s e : ℕ) where
         × (line_right w.position.lines (line_at w.opening s e) ≡ true)
     unfolding lines_right line_places line_at line_count
     line-there =
-        let k = line-passed w s e h in
+        let k = line_passed w s e h in
         let n = line-below w.opening s e k.1 in
         let m = (lengths w k.0).lines in
         (omega arith, all-at _ _ (formed w k.0).lines ((s - 1) * w.opening.elements + e) n)
@@ -87,16 +87,16 @@ module _ (w : World) (s e : ℕ) where
         → LineAnswered w s e (LineAnswer.Line r.quantity r.kroner r.billionths)
     unfolding stored line_named
     line-named r m n l =
-        let k = line-passed w s e h in
+        let k = line_passed w s e h in
         line-told (LineAnswer.Line r.quantity r.kroner r.billionths) (sym (eq-eqb _ _ h))
-        (rw (l.quantity, l.kroner, l.billionths) (sym (query-stored w k.0 s e k.1)))
+        (rw (l.quantity, l.kroner, l.billionths) (sym (query_stored w k.0 s e k.1)))
 
 -- ---- the periods
 
 -- what the search for them asks
 pub pair_asked : (b : Book) (o : Lists) (p e : ℕ) → periods_number (world_in b o) p e ≡ 0 → LinkRows o.links b.periods × PairFits p e
 pair_asked b o p e h =
-    let k = periods-passed (world_in b o) p e h in
+    let k = periods_passed (world_in b o) p e h in
     let n = (lengths (world_in b o) k.0).limited in
     let points = n.points in
     let elements = n.elements in
@@ -112,14 +112,14 @@ unfolding periods_query periods_read rows_of
 periods-at b o p e place count told h f =
     let k = pair_asked b o p e h in
     let rows = run_rising k.0.run in
-    let part = part-sorted p e k.1.element rows in
+    let part = part_sorted p e k.1.element rows in
     let n = length-take-le b.periods o.links k.0.fits in
     let h' = f.within in
     let i : place + count ≤ b.periods = omega arith in
     let c : place + count - place ≡ count = omega arith in
     let at : PeriodsAt (world_in b o) p e place count
     = record {
-      from = f.from ∙ place-sorted p e k.1.element rows;
+      from = f.from ∙ place_sorted p e k.1.element rows;
       many = rw h (f.many ∙ ap length part);
       rows = rw h ((rw c at (part-within place (place + count) b.periods o.links i)) ∙ f.part ∙ part);
       within = i;

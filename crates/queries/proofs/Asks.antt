@@ -29,24 +29,24 @@ module _ (w : World) where
     day-asks p = sym (whole-asked w h _)
 
   -- the book is whole, and the rest has passed
-  pub line-passed : (s e : ℕ) → line_number w s e ≡ 0 → Whole w × InBook w.opening s e
+  pub line_passed : (s e : ℕ) → line_number w s e ≡ 0 → Whole w × InBook w.opening s e
   unfolding line_number
-  line-passed s e h =
+  line_passed s e h =
       let k = book-whole w _ h in
       let a = asked_passed (within 1 w.opening.suppliers s) 6 _ 0 (λ z. omega arith) k.1 in
       let b = asked_passed (ltb e w.opening.elements) 8 0 0 (λ z. omega arith) a.1 in
       (k.0, record { someone = within_low _ _ s a.0; supplier = within-high _ _ s a.0; element = ltb-true _ _ b.0 })
 
-  pub periods-passed : (p e : ℕ) → periods_number w p e ≡ 0 → Whole w × ((p < w.opening.points) × (e < w.opening.elements))
+  pub periods_passed : (p e : ℕ) → periods_number w p e ≡ 0 → Whole w × ((p < w.opening.points) × (e < w.opening.elements))
   unfolding periods_number
-  periods-passed p e h =
+  periods_passed p e h =
       let k = book-whole w _ h in
       let a = asked_passed (ltb p w.opening.points) 7 _ 0 (λ z. omega arith) k.1 in
       let b = asked_passed (ltb e w.opening.elements) 8 0 0 (λ z. omega arith) a.1 in
       (k.0, (ltb-true _ _ a.0, ltb-true _ _ b.0))
 
-  pub day-passed : (p : ℕ) → day_number w p ≡ 0 → Whole w × (p < w.opening.points)
+  pub day_passed : (p : ℕ) → day_number w p ≡ 0 → Whole w × (p < w.opening.points)
   unfolding day_number
-  day-passed p h =
+  day_passed p h =
       let k = book-whole w _ h in
       (k.0, ltb-true _ _ (asked_passed (ltb p w.opening.points) 7 0 0 (λ z. omega arith) k.1).0)

@@ -22,7 +22,7 @@ use Rattle.rules.specs.Lent.{Lists, world_in, opening_in, tables_in, lend_rows}
 use Rattle.rules.proofs.Parts.{lengths, dated}
 use Rattle.tables.proofs.Right.{whole-rows}
 use Rattle.queries.specs.Days.{PointAsked}
-use Rattle.queries.proofs.Asks.{day-passed}
+use Rattle.queries.proofs.Asks.{day_passed}
 
 -- is an element linked to the point that day, by the rows
 abbrev pub linked_by : List ℕ → (point day element : ℕ) → Bool
@@ -35,9 +35,9 @@ module _ (f : ℕ → Bool) where
   unfolding any_to
   any_none = refl
 
-  pub any-more : (n : ℕ) → any_to f n ≡ false → f n ≡ false → any_to f (n + 1) ≡ false
+  pub any_more : (n : ℕ) → any_to f n ≡ false → f n ≡ false → any_to f (n + 1) ≡ false
   unfolding any_to
-  any-more n h t = rw (add-one n, t, h)
+  any_more n h t = rw (add-one n, t, h)
 
   pub any-true : (n i : ℕ) → i < n → f i ≡ true → any_to f n ≡ true
   unfolding any_to
@@ -64,18 +64,18 @@ module _ (f : ℕ → Bool) where
 -- ---- a day, by the holder, the state and the links
 
 module _ (o : Opening) (t : Tables) (p d : ℕ) where
-  pub by-links : holder_on t p d ≡ 0 → counting_states o.year (state_on t p d) ≡ true
+  pub by_links : holder_on t p d ≡ 0 → counting_states o.year (state_on t p d) ≡ true
       → any_to (λ e. linked_on t p e d) o.elements ≡ lacks_holder o t p d
   unfolding lacks_holder
-  by-links a b = rw (a, b)
+  by_links a b = rw (a, b)
 
   pub by_state : holder_on t p d ≡ 0 → counting_states o.year (state_on t p d) ≡ false → false ≡ lacks_holder o t p d
   unfolding lacks_holder
   by_state a b = rw (a, b)
 
-  pub by-holder : holder_on t p d ≢ 0 → false ≡ lacks_holder o t p d
+  pub by_holder : holder_on t p d ≢ 0 → false ≡ lacks_holder o t p d
   unfolding lacks_holder
-  by-holder a = rw (ne_eqb _ _ a)
+  by_holder a = rw (ne_eqb _ _ a)
 
 -- ---- the days, one by one
 
@@ -84,7 +84,9 @@ abbrev pub lacks_by : (b : Book) → (links holders states : List ℕ) → (poin
 lacks_by b links holders states p o = let t = lend_rows links holders states o in lacks_holder (opening_in b t) (tables_in b t) p
 
 abbrev pub earliest_by : (b : Book) → (links holders states : List ℕ) → (point : ℕ) → Lists → Option ℕ
-earliest_by b links holders states p o = let t = lend_rows links holders states o in earliest_without_holder (opening_in b t) (tables_in b t) p
+earliest_by b links holders states p o =
+    let t = lend_rows links holders states o in
+    earliest_without_holder (opening_in b t) (tables_in b t) p
 
 -- the days of the month from a date on give the answer
 pub record Searched (b : Book) (links holders states : List ℕ) (p first days date : ℕ) : Type 0 where
@@ -95,25 +97,25 @@ pub record Searched (b : Book) (links holders states : List ℕ) (p first days d
       ≡ earliest_by b links holders states p o
 
 module _ (b : Book) (links holders states : List ℕ) (p first days : ℕ) where
-  pub searched-from : InRange b.year b.month → first ≡ first_day b.year b.month → days ≡ days_of_month b.year b.month
+  pub searched_from : InRange b.year b.month → first ≡ first_day b.year b.month → days ≡ days_of_month b.year b.month
       → Searched b links holders states p first days 1
   unfolding earliest_without_holder month_first month_days
-  searched-from m f d =
+  searched_from m f d =
       let w = month-within b.year b.month m in
       let e : first + (1 - 1) ≡ first_day b.year b.month = omega arith in
       let k : days - (1 - 1) ≡ days_of_month b.year b.month = omega arith in
       record { from = omega arith; upto = omega arith; within = omega arith; rest = λ o. rw (e, k) }
 
   module _ (date : ℕ) (s : Searched b links holders states p first days date) where
-    pub searched-here : date ≤ days → (o : Lists) → lacks_by b links holders states p o (first + (date - 1)) ≡ true
+    pub searched_here : date ≤ days → (o : Lists) → lacks_by b links holders states p o (first + (date - 1)) ≡ true
         → some (first + (date - 1)) ≡ earliest_by b links holders states p o
-    searched-here l o h =
+    searched_here l o h =
         let f = s.from in
         sym (first-here _ (first + (date - 1)) (days - (date - 1)) (omega arith) h) ∙ s.rest o
 
-    pub searched-more : date ≤ days → ((o : Lists) → lacks_by b links holders states p o (first + (date - 1)) ≡ false)
+    pub searched_more : date ≤ days → ((o : Lists) → lacks_by b links holders states p o (first + (date - 1)) ≡ false)
         → Searched b links holders states p first days (date + 1)
-    searched-more l h =
+    searched_more l h =
         let f = s.from in
         let e : first + (date - 1) + 1 ≡ first + (date + 1 - 1) = omega arith in
         let k : days - (date - 1) - 1 ≡ days - (date + 1 - 1) = omega arith in
@@ -125,14 +127,14 @@ module _ (b : Book) (links holders states : List ℕ) (p first days : ℕ) where
               (sym (first_next _ (first + (date - 1)) (days - (date - 1)) (omega arith) (h o)) ∙ s.rest o);
         }
 
-    pub searched-all : days < date → (o : Lists) → none ≡ earliest_by b links holders states p o
+    pub searched_all : days < date → (o : Lists) → none ≡ earliest_by b links holders states p o
     unfolding first_from
-    searched-all l o = let e : days - (date - 1) ≡ 0 = omega arith in rw e at (s.rest o)
+    searched_all l o = let e : days - (date - 1) ≡ 0 = omega arith in rw e at (s.rest o)
 
 -- what the search needs, where no question says no
 pub point-asked : (b : Book) (o : Lists) (p : ℕ) → day_number (world_in b o) p ≡ 0 → PointAsked b o.links o.holders o.states p
 point-asked b o p h =
-    let k = day-passed (world_in b o) p h in
+    let k = day_passed (world_in b o) p h in
     let n = (lengths (world_in b o) k.0).limited in
     let r = whole-rows b o k.0 in
     record {

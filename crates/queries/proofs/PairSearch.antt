@@ -16,7 +16,7 @@ use Rattle.rules.specs.Sizes.{element_room}
 use Rattle.rules.specs.Rows.{pack_period, period_point, period_element, pair_rows}
 use Rattle.rules.specs.Queries.{beyond_pair, read_to}
 use Rattle.rules.proofs.Tests.{tests, cases}
-use Rattle.rules.proofs.Words.{first-lt, element-lt}
+use Rattle.rules.proofs.Words.{first_lt, element_lt}
 use Rattle.tables.specs.Order.{Rising, nil, row}
 use Rattle.tables.specs.Search.{rows_below}
 use Rattle.tables.proofs.Parts.{take-drop}
@@ -75,14 +75,14 @@ module _ (p e : ℕ) where
       (rw b (ap (λ (l : List ℕ). w ∷ l) m.0), rw b (ap suc m.1)))
 
   -- a row more: how many of it stand before the point and element
-  place-snoc : (ws : List ℕ) (w n : ℕ) → pair_place p e (w ∷ []) ≡ n → pair_place p e (ws ++ (w ∷ [])) ≡ pair_place p e ws + n
+  place_snoc : (ws : List ℕ) (w n : ℕ) → pair_place p e (w ∷ []) ≡ n → pair_place p e (ws ++ (w ∷ [])) ≡ pair_place p e ws + n
   unfolding pair_place keep
-  place-snoc [] w n h = h ∙ sym (zero-add n)
-  place-snoc (v ∷ vs) w n h = let m = place-snoc vs w n h in cases (before_pair p e v) (λ t. rw t (omega arith)) (λ t. rw t m)
+  place_snoc [] w n h = h ∙ sym (zero-add n)
+  place_snoc (v ∷ vs) w n h = let m = place_snoc vs w n h in cases (before_pair p e v) (λ t. rw t (omega arith)) (λ t. rw t m)
 
-  place-more : (ws : List ℕ) (i n : ℕ) → i < length ws → pair_place p e (get_or ws i 0 ∷ []) ≡ n
+  place_more : (ws : List ℕ) (i n : ℕ) → i < length ws → pair_place p e (get_or ws i 0 ∷ []) ≡ n
       → pair_place p e (take (i + 1) ws) ≡ pair_place p e (take i ws) + n
-  place-more ws i n l h = rw (add-one, take-suc ws i 0 l) (place-snoc (take i ws) (get_or ws i 0) n h)
+  place_more ws i n l h = rw (add-one, take-suc ws i 0 l) (place_snoc (take i ws) (get_or ws i 0) n h)
 
   -- what is found where the rows before the first beyond are the first i
   pair_found : (ws : List ℕ) (i place told : ℕ) → i ≤ length ws → place ≤ i → place ≡ pair_place p e (take i ws)
@@ -135,21 +135,21 @@ module _ (p e : ℕ) where
   -- ---- by words
 
   module _ (he : e < element_room) where
-    before-between : Between (before_pair p e) 0 (pack_period p e 0 0 0)
+    before_between : Between (before_pair p e) 0 (pack_period p e 0 0 0)
     unfolding before_pair
-    before-between =
+    before_between =
         record {
           order = omega arith;
           before = λ w h. absurd (not-suc-le-zero h);
           inside = λ w h l. let k = below-day p e 0 w l in cases (ltb (period_point w) p)
               (λ t. rw t)
-              (λ t. let a = element-lt w in
+              (λ t. let a = element_lt w in
               let i : period_point w ≡ p = omega (arith, tests) in
               let j : period_element w < e = omega arith in
               rw (t, eq-eqb _ _ i, lt-ltb _ _ j));
           past = λ w h. let k = from-day p e 0 w h in
-              let a = first-lt w in
-              let b = element-lt w in
+              let a = first_lt w in
+              let b = element_lt w in
               let i : ltb (period_point w) p ≡ false = omega (arith, tests) in
               cases (eqb (period_point w) p)
               (λ t. let j : ltb (period_element w) e ≡ false = omega (arith, tests) in rw (i, t, j))
@@ -160,20 +160,20 @@ module _ (p e : ℕ) where
     unfolding beyond_pair
     not_beyond w h =
         let k = below-day p (e + 1) 0 w h in
-        let a = element-lt w in
+        let a = element_lt w in
         let i : ltb p (period_point w) ≡ false = omega (arith, tests) in
         cases (eqb (period_point w) p)
         (λ t. let j : ltb e (period_element w) ≡ false = omega (arith, tests) in rw (i, t, j))
         (λ t. rw (i, t))
 
-    is-beyond : (w : ℕ) → pack_period p (e + 1) 0 0 0 ≤ w → beyond_pair p e w ≡ true
+    is_beyond : (w : ℕ) → pack_period p (e + 1) 0 0 0 ≤ w → beyond_pair p e w ≡ true
     unfolding beyond_pair
-    is-beyond w h =
+    is_beyond w h =
         let k = from-day p (e + 1) 0 w h in
-        let a = first-lt w in
+        let a = first_lt w in
         cases (ltb p (period_point w))
         (λ t. rw t)
-        (λ t. let b = element-lt w in
+        (λ t. let b = element_lt w in
         let i : period_point w ≡ p = omega (arith, tests) in
         let j : e < period_element w = omega arith in
         rw (t, eq-eqb _ _ i, lt-ltb _ _ j))
@@ -186,7 +186,7 @@ module _ (p e : ℕ) where
     rows_next {ws = ws} {i = i} n r l h m k =
         let few = r.few in
         let from = r.from in
-        let more = place-more ws i n l k in
+        let more = place_more ws i n l k in
         record {
           up = up_more ws i r.up l (not_beyond (get_or ws i 0) h);
           within = omega arith;
@@ -199,18 +199,18 @@ module _ (p e : ℕ) where
       unfolding pair_place keep
       rows_before l h =
           let o = (pair_between p e he).order in
-          rows_next 1 r l (omega arith) (omega arith) (rw (before-between.inside (get_or ws i 0) (omega arith) h))
+          rows_next 1 r l (omega arith) (omega arith) (rw (before_between.inside (get_or ws i 0) (omega arith) h))
 
       pub rows-own : i < length ws → pack_period p e 0 0 0 ≤ get_or ws i 0 → get_or ws i 0 < pack_period p (e + 1) 0 0 0
           → RowsRead p e ws place (i + 1)
       unfolding pair_place keep
       rows-own l h k =
           let z : place + 0 ≡ place = omega arith in
-          rw z at (rows_next 0 r l k (omega arith) (rw (before-between.past (get_or ws i 0) h)))
+          rw z at (rows_next 0 r l k (omega arith) (rw (before_between.past (get_or ws i 0) h)))
 
-      pub rows-beyond : i < length ws → pack_period p (e + 1) 0 0 0 ≤ get_or ws i 0 → PairFound p e ws place (i - place) (i + 1)
-      rows-beyond l h =
-          pair_found ws i place (i + 1) r.within r.few r.from (up-here ws i r.up l (is-beyond (get_or ws i 0) h))
+      pub rows_beyond : i < length ws → pack_period p (e + 1) 0 0 0 ≤ get_or ws i 0 → PairFound p e ws place (i - place) (i + 1)
+      rows_beyond l h =
+          pair_found ws i place (i + 1) r.within r.few r.from (up-here ws i r.up l (is_beyond (get_or ws i 0) h))
 
       pub rows_all : length ws ≤ i → PairFound p e ws place (i - place) i
       rows_all h =
@@ -225,22 +225,22 @@ module _ (p e : ℕ) where
     up-below [] = refl
     up-below (w ∷ ws) = cases (ltb w (pack_period p (e + 1) 0 0 0))
         (λ t. rw (t, not_beyond w (ltb-true _ _ t)) (ap (λ (l : List ℕ). w ∷ l) (up-below ws)))
-        (λ t. rw (t, is-beyond w (ltb-false _ _ t)))
+        (λ t. rw (t, is_beyond w (ltb-false _ _ t)))
 
-    pub place-sorted : {k : ℕ} {ws : List ℕ} → Rising (λ v. v) k ws → searched_place p e ws ≡ pair_place p e ws
+    pub place_sorted : {k : ℕ} {ws : List ℕ} → Rising (λ v. v) k ws → searched_place p e ws ≡ pair_place p e ws
     unfolding searched_place up_to_beyond pair_place keep
-    place-sorted nil = refl
-    place-sorted (row {w = w} i m) = cases (ltb w (pack_period p (e + 1) 0 0 0))
-        (λ t. let n = place-sorted m in
+    place_sorted nil = refl
+    place_sorted (row {w = w} i m) = cases (ltb w (pack_period p (e + 1) 0 0 0))
+        (λ t. let n = place_sorted m in
         rw (not_beyond w (ltb-true _ _ t)) (cases (before_pair p e w) (λ b. rw b (ap suc n)) (λ b. rw b n)))
         (λ t. let o = (pair_between p e he).order in
-        rw (is-beyond w (ltb-false _ _ t))
-        (ap length (sym (keep-past before-between (row {k = w} (le_refl w) m) (omega (arith, tests))))))
+        rw (is_beyond w (ltb-false _ _ t))
+        (ap length (sym (keep-past before_between (row {k = w} (le_refl w) m) (omega (arith, tests))))))
 
-    pub part-sorted : {k : ℕ} {ws : List ℕ} → Rising (λ v. v) k ws → searched_part p e ws ≡ pair_rows p e ws
+    pub part_sorted : {k : ℕ} {ws : List ℕ} → Rising (λ v. v) k ws → searched_part p e ws ≡ pair_rows p e ws
     unfolding searched_part pair_rows
-    part-sorted {ws = ws} m =
+    part_sorted {ws = ws} m =
         let from : searched_place p e ws ≡ rows_below (pack_period p e 0 0 0) ws
-        = place-sorted m ∙ unfold pair_place in keep-count before-between m (omega arith) in
+        = place_sorted m ∙ unfold pair_place in keep-count before_between m (omega arith) in
         rw (from, up-below ws) (sym (take-drop (rows_below (pack_period p e 0 0 0) ws) (rows_below (pack_period p (e + 1) 0 0 0) ws) ws)
         ∙ sym (keep-range (pair_between p e he) m))

@@ -1,5 +1,5 @@
 -- What the queries for lines and periods promise, each as one record of equations with the rules' definitions. The query for a day promises
--- one equation, with `dayQuery`.
+-- one equation, with `day_query`.
 use Rattle.std.specs.Prelude.{ℕ, ◌+◌, ◌≤◌, ◌≡◌, Bool, true, false, List, eqb, length, take, drop}
 use Rattle.rules.specs.declared.LineAnswer.{LineAnswer}
 use Rattle.rules.specs.World.{World, rows_of, InBook}

@@ -1,14 +1,17 @@
 // The queries of a book that is well formed: the line of a supplier and an element, the periods of a point and an element, and the
 // earliest day without a holder. Each asks its own questions, 6 to 8, but for the periods, which are handed the answer to theirs.
+#![tactic(auto)]
+
 ghost use Rattle.std.specs.Prelude.{◌≡◌, ◌≢◌, [], ◌+◌, ◌-◌, ◌*◌, ◌≤◌, ◌<◌, ltb};
 ghost use Rattle.rules.specs.Basics.{within, any_to};
 ghost use Rattle.rules.specs.Sizes.{end_of_days, line_size, most_elements, most_points, most_suppliers};
 ghost use Rattle.rules.specs.World.{linked_on};
 ghost use Rattle.rules.specs.Effects.{ask};
-ghost use Rattle.rules.specs.Queries.{periods_number, periods_query, periods_read, DayResult, lacks_holder, earliest_without_holder, day_query};
+ghost use Rattle.rules.specs.Queries.{periods_number, periods_query, periods_read, DayResult, lacks_holder};
+ghost use Rattle.rules.specs.Queries.{earliest_without_holder, day_query};
 ghost use Rattle.rules.specs.Answers.{number_of, day_result};
 ghost use Rattle.rules.specs.Whole.{Whole};
-ghost use Rattle.rules.specs.Lent.{Lists, world_in, opening_in, tables_in, lend_links, lend_rows, lend_lines, was, left};
+ghost use Rattle.rules.specs.Lent.{Lists, world_in, opening_in, tables_in, lend_links, lend_rows, lend_lines};
 ghost use Rattle.tables.specs.Order.{LinkRows, PairFits};
 ghost use Rattle.queries.specs.Promises.{LineAnswered, PeriodsAt};
 ghost use Rattle.queries.specs.Days.{PointAsked};
@@ -57,7 +60,7 @@ fn line_place(elements: u64, supplier: u64, element: u64) -> usize
 pub fn line(book: Book, lines: &[i64], supplier: u64, element: u64) -> LineAnswer
     requires { (o : Lists) × Whole (world_in book (lend_lines lines.now o)) }
     ensures { (o : Lists) →
-        let w = world_in book (lend_lines (was lines) o) in
+        let w = world_in book (lend_lines lines.now o) in
         Whole w → LineAnswered w supplier element result }
 {
     let asked = ask_line(book, supplier, element);
@@ -76,7 +79,7 @@ pub fn line(book: Book, lines: &[i64], supplier: u64, element: u64) -> LineAnswe
 // ---- the periods of a point and element
 
 // A part of the link table: the place of its first row, how many rows it has, and how many were read to find it.
-#[derive(Drop)]
+#[derive(Clone, Copy)]
 pub struct Part {
     pub place: usize,
     pub count: usize,
@@ -87,7 +90,7 @@ pub struct Part {
 // ends at the first beyond the point and element. Linear in the rows read.
 pub fn search_pair(rows: &[u64], point: u64, element: u64) -> Part
     requires { PairFits point element }
-    ensures { PairFound point element (was rows) result.place result.count result.read }
+    ensures { PairFound point element rows.now result.place result.count result.read }
 {
     let first = pack_period(point, element, 0, 0, 0);
     let bound = pair_bound(point, element);
@@ -119,7 +122,7 @@ pub fn search_pair(rows: &[u64], point: u64, element: u64) -> Part
 pub fn periods_place(book: Book, links: &[u64], point: u64, element: u64) -> Part
     requires { (o : Lists) × periods_number (world_in book (lend_links links.now o)) point element ≡ 0 }
     ensures { (o : Lists) →
-        let w = world_in book (lend_links (was links) o) in
+        let w = world_in book (lend_links links.now o) in
         periods_number w point element ≡ 0
         → PeriodsAt w point element result.place result.count × (result.read ≡ periods_read w point element) }
 {
@@ -140,10 +143,10 @@ pub fn periods<'a>(
 ) -> &'a [u64]
     requires { number_of asked ≡ 0 → ((o : Lists) × periods_number (world_in book (lend_links links.now o)) point element ≡ 0) }
     ensures answers { (o : Lists) →
-        let w = world_in book (lend_links (was links) o) in
+        let w = world_in book (lend_links links.now o) in
         number_of asked ≡ periods_number w point element
-        → (result.now ≡ periods_query w point element) × (left read ≡ periods_read w point element) }
-    ensures refused { number_of asked ≢ 0 → (result.now ≡ []) × (left read ≡ 0) }
+        → (result.now ≡ periods_query w point element) × (read.new ≡ periods_read w point element) }
+    ensures refused { number_of asked ≢ 0 → (result.now ≡ []) × (read.new ≡ 0) }
 {
     if number(asked) == 0 {
         let part = periods_place(book, links, point, element);
@@ -164,7 +167,7 @@ fn has_link(book: Book, links: &[u64], point: u64, day: u64) -> bool
     requires link_rows { LinkRows links.now book.periods }
     requires point_lt_most_points { (point < most_points) × (book.elements ≤ most_elements) × (day < end_of_days) }
     ensures { (o : Lists) →
-        result ≡ any_to (λ e. linked_on (tables_in book (lend_links (was links) o)) point e day) book.elements }
+        result ≡ any_to (λ e. linked_on (tables_in book (lend_links links.now o)) point e day) book.elements }
 {
     let used = book.periods as usize;
     let mut element = 0;
@@ -191,7 +194,7 @@ fn lacks_holder(
     requires point_asked { PointAsked book links.now holders.now states.now point }
     requires day_lt_end_of_days { day < end_of_days }
     ensures { (o : Lists) →
-        let t = lend_rows (was links) (was holders) (was states) o in
+        let t = lend_rows links.now holders.now states.now o in
         result ≡ lacks_holder (opening_in book t) (tables_in book t) point day }
 {
     if holder_on(book, holders, point, day) == 0 {
@@ -206,7 +209,7 @@ fn lacks_holder(
 fn find_day(book: Book, links: &[u64], holders: &[u64], states: &[u64], point: u64) -> DayAnswer
     requires { PointAsked book links.now holders.now states.now point }
     ensures { (o : Lists) →
-        let t = lend_rows (was links) (was holders) (was states) o in
+        let t = lend_rows links.now holders.now states.now o in
         day_result result ≡ DayResult.answered (earliest_without_holder (opening_in book t) (tables_in book t) point) }
 {
     let first = month_first(book);
@@ -233,7 +236,7 @@ pub fn day_without_holder(
 ) -> DayAnswer
     requires { (o : Lists) × Whole (world_in book (lend_rows links.now holders.now states.now o)) }
     ensures { (o : Lists) →
-        let w = world_in book (lend_rows (was links) (was holders) (was states) o) in
+        let w = world_in book (lend_rows links.now holders.now states.now o) in
         Whole w → day_result result ≡ day_query w point }
 {
     let asked = ask_point(book, point);

@@ -2,9 +2,7 @@
 use Prim.Native.Nat.{ℕ, suc, ◌+◌, ◌≤◌, ◌<◌}
 use mathlib.Core.Path.{◌≡◌, refl, sym, subst, ◌∙◌}
 use mathlib.Core.Bool.{Bool, true, false, cond, and-true}
-use mathlib.Core.List.{List, [], ◌∷◌}
-use types.Run.{OneOf, miss}
-use denote.Enum.Declared.{tag_of}
+use mathlib.Core.List.{List}
 use lib.Dec.{leb}
 use lib.ListN.{length, take}
 use lib.Seq.{length-take-le}
@@ -14,7 +12,6 @@ use borrow.Author.Tests.{le-leb, leb-true}
 use Rattle.rules.specs.declared.Book.{Book}
 use Rattle.rules.specs.declared.Body.{Body}
 use Rattle.rules.specs.declared.Body.TheVariants.{Link, Stop, Quantity, Holder, State, Reading, Block, Round}
-use Rattle.rules.specs.contracts.Body.{the_type}
 use Rattle.rules.specs.Rows.{pack_period, starts_on, insert_row, stop_rows, split_rows, pack_value, recorded_on, record_row}
 use Rattle.rules.specs.Sizes.{holder_size, places, state_size}
 use Rattle.rules.specs.World.{rows_of, table_of}
@@ -35,42 +32,42 @@ module _ (b : Book) (o : Lists) (g : TableRows b o.links o.holders o.states) whe
   abbrev fits_after : Body → Bool
   fits_after x = rows_fit (told (opening_in b o) (tables_in b o) x)
 
-  with-links-fit : (rows : List ℕ) → rows_fit (with_links (tables_in b o) rows) ≡ leb (length rows) places
+  with_links_fit : (rows : List ℕ) → rows_fit (with_links (tables_in b o) rows) ≡ leb (length rows) places
   unfolding rows_fit with_links table_of
-  with-links-fit rows = rw (le-leb _ _ g.holders-clear.count, le-leb _ _ g.states-clear.count) (and-true _)
+  with_links_fit rows = rw (le-leb _ _ g.holders-clear.count, le-leb _ _ g.states-clear.count) (and-true _)
 
-  with-holders-fit : (rows : List ℕ) → rows_fit (with_holders (tables_in b o) rows) ≡ leb (length rows) places
+  with_holders_fit : (rows : List ℕ) → rows_fit (with_holders (tables_in b o) rows) ≡ leb (length rows) places
   unfolding rows_fit with_holders table_of
-  with-holders-fit rows = rw (le-leb _ _ g.links-clear.count, le-leb _ _ g.states-clear.count) (and-true _)
+  with_holders_fit rows = rw (le-leb _ _ g.links-clear.count, le-leb _ _ g.states-clear.count) (and-true _)
 
-  with-states-fit : (rows : List ℕ) → rows_fit (with_states (tables_in b o) rows) ≡ leb (length rows) places
+  with_states_fit : (rows : List ℕ) → rows_fit (with_states (tables_in b o) rows) ≡ leb (length rows) places
   unfolding rows_fit with_states table_of
-  with-states-fit rows = rw (le-leb _ _ g.links-clear.count, le-leb _ _ g.holders-clear.count)
+  with_states_fit rows = rw (le-leb _ _ g.links-clear.count, le-leb _ _ g.holders-clear.count)
 
   -- by the rows that each message leaves
   link_fits : (p e d q : ℕ) → fits_after (Link p e d q) ≡ leb (b.periods + 1) places
   unfolding told rows_of
   link_fits p e d q =
-      with-links-fit (insert_row (pack_period p e d (link_end (opening_in b o) (tables_in b o) p e d) q) (take b.periods o.links))
+      with_links_fit (insert_row (pack_period p e d (link_end (opening_in b o) (tables_in b o) p e d) q) (take b.periods o.links))
       ∙ rw (length_insert, length-take-le b.periods o.links g.links.fits, add-one b.periods)
 
-  stop-fits : (p e d : ℕ) → fits_after (Stop p e d) ≡ leb (length (stop_rows p e d (take b.periods o.links))) places
+  stop_fits : (p e d : ℕ) → fits_after (Stop p e d) ≡ leb (length (stop_rows p e d (take b.periods o.links))) places
   unfolding told rows_of
-  stop-fits p e d = with-links-fit (stop_rows p e d (take b.periods o.links))
+  stop_fits p e d = with_links_fit (stop_rows p e d (take b.periods o.links))
 
   quantity-fits : (p e d q : ℕ) → fits_after (Quantity p e d q) ≡ leb (length (split_rows p e d q (take b.periods o.links))) places
   unfolding told rows_of
-  quantity-fits p e d q = with-links-fit (split_rows p e d q (take b.periods o.links))
+  quantity-fits p e d q = with_links_fit (split_rows p e d q (take b.periods o.links))
 
   holder-fits : (p d v : ℕ) → fits_after (Holder p d v)
       ≡ leb (length (record_row holder_size (pack_value holder_size p d v) (take b.holders o.holders))) places
   unfolding told rows_of
-  holder-fits p d v = with-holders-fit (record_row holder_size (pack_value holder_size p d v) (take b.holders o.holders))
+  holder-fits p d v = with_holders_fit (record_row holder_size (pack_value holder_size p d v) (take b.holders o.holders))
 
   state-fits : (p d v : ℕ) → fits_after (State p d v)
       ≡ leb (length (record_row state_size (pack_value state_size p d v) (take b.states o.states))) places
   unfolding told rows_of
-  state-fits p d v = with-states-fit (record_row state_size (pack_value state_size p d v) (take b.states o.states))
+  state-fits p d v = with_states_fit (record_row state_size (pack_value state_size p d v) (take b.states o.states))
 
   -- what the code finds is whether they fit
   module _ (body : Body) (f : RowFits (take b.periods o.links) body) where
@@ -78,18 +75,18 @@ module _ (b : Book) (o : Lists) (g : TableRows b o.links o.holders o.states) whe
     fields x h = subst (RowFits (take b.periods o.links)) h f
 
     -- message 1: one row more
-    pub link-count : (p e d q : ℕ) → body ≡ Link p e d q → (r : Bool) → r ≡ leb (cond false b.periods (b.periods + 1)) places
+    pub link_count : (p e d q : ℕ) → body ≡ Link p e d q → (r : Bool) → r ≡ leb (cond false b.periods (b.periods + 1)) places
         → r ≡ fits_after body
-    link-count p e d q h r k = rw h (k ∙ sym (link_fits p e d q))
+    link_count p e d q h r k = rw h (k ∙ sym (link_fits p e d q))
 
     -- message 2: none
-    stop-count : (p e d : ℕ) → true ≡ fits_after (Stop p e d)
-    stop-count p e d =
+    stop_count : (p e d : ℕ) → true ≡ fits_after (Stop p e d)
+    stop_count p e d =
         let l = length-take-le b.periods o.links g.links.fits in
         let n = length_stop p e d (take b.periods o.links) in
         let m = g.links-clear.count in
         let k : length (stop_rows p e d (take b.periods o.links)) ≤ places = omega arith in
-        sym (le-leb _ _ k) ∙ sym (stop-fits p e d)
+        sym (le-leb _ _ k) ∙ sym (stop_fits p e d)
 
     -- message 3: one, unless a period starts that day
     pub quantity-count : (p e d q : ℕ) → body ≡ Quantity p e d q → (t r : Bool) → t ≡ starts_on (take b.periods o.links) p e d
@@ -119,35 +116,41 @@ module _ (b : Book) (o : Lists) (g : TableRows b o.links o.holders o.states) whe
         rw (h, state-fits p d v, n, l, ← s, one_more) k
 
     -- of the messages that the code does not look at, a stop alone writes a row
-    other-count : (x : Body) → RowFits (take b.periods o.links) x → OneOf (1 ∷ 5 ∷ 6 ∷ 7 ∷ []) (tag_of the_type x)
+    other_count : (x : Body) → RowFits (take b.periods o.links) x → ((p e d q : ℕ) → x ≡ Link p e d q → ⊥)
+        → ((p e d q : ℕ) → x ≡ Quantity p e d q → ⊥)
+        → ((p d v : ℕ) → x ≡ Holder p d v → ⊥)
+        → ((p d v : ℕ) → x ≡ State p d v → ⊥)
         → true ≡ fits_after x
-    other-count (Link p e d q) r h = absurd (miss (1 ∷ 5 ∷ 6 ∷ 7 ∷ []) 0 tt h)
-    other-count (Stop p e d) r h = stop-count p e d
-    other-count (Quantity p e d q) r h = absurd (miss (1 ∷ 5 ∷ 6 ∷ 7 ∷ []) 2 tt h)
-    other-count (Holder p d v) r h = absurd (miss (1 ∷ 5 ∷ 6 ∷ 7 ∷ []) 3 tt h)
-    other-count (State p d v) r h = absurd (miss (1 ∷ 5 ∷ 6 ∷ 7 ∷ []) 4 tt h)
-    other-count (Reading p d h n) r k = absurd r
-    other-count (Block p v) r h = absurd r
-    other-count Round r h = absurd r
+    other_count (Link p e d q) r not_link not_quantity not_holder not_state = absurd (not_link p e d q refl)
+    other_count (Stop p e d) r not_link not_quantity not_holder not_state = stop_count p e d
+    other_count (Quantity p e d q) r not_link not_quantity not_holder not_state = absurd (not_quantity p e d q refl)
+    other_count (Holder p d v) r not_link not_quantity not_holder not_state = absurd (not_holder p d v refl)
+    other_count (State p d v) r not_link not_quantity not_holder not_state = absurd (not_state p d v refl)
+    other_count (Reading p d h n) r not_link not_quantity not_holder not_state = absurd r
+    other_count (Block p v) r not_link not_quantity not_holder not_state = absurd r
+    other_count Round r not_link not_quantity not_holder not_state = absurd r
 
-    pub rest-count : OneOf (1 ∷ 5 ∷ 6 ∷ 7 ∷ []) (tag_of the_type body) → true ≡ fits_after body
-    rest-count h = other-count body f h
+    pub rest-count : ((p e d q : ℕ) → body ≡ Link p e d q → ⊥)
+        → ((p e d q : ℕ) → body ≡ Quantity p e d q → ⊥)
+        → ((p d v : ℕ) → body ≡ Holder p d v → ⊥)
+        → ((p d v : ℕ) → body ≡ State p d v → ⊥) → true ≡ fits_after body
+    rest-count not_link not_quantity not_holder not_state = other_count body f not_link not_quantity not_holder not_state
 
     -- where they fit, the row that is written has its place
     module _ (t : fits_after body ≡ true) where
-      fit-as : (x : Body) → body ≡ x → fits_after x ≡ true
-      fit-as x h = subst (λ y. fits_after y ≡ true) h t
+      fit_as : (x : Body) → body ≡ x → fits_after x ≡ true
+      fit_as x h = subst (λ y. fits_after y ≡ true) h t
 
-      pub link-room : (p e d q : ℕ) → body ≡ Link p e d q → b.periods < places
-      link-room p e d q h = let n : b.periods + 1 ≤ places = leb-true _ _ (sym (link_fits p e d q) ∙ fit-as _ h) in omega arith
+      pub link_room : (p e d q : ℕ) → body ≡ Link p e d q → b.periods < places
+      link_room p e d q h = let n : b.periods + 1 ≤ places = leb-true _ _ (sym (link_fits p e d q) ∙ fit_as _ h) in omega arith
 
       pub quantity-room : (p e d q : ℕ) → body ≡ Quantity p e d q → length (split_rows p e d q (take b.periods o.links)) ≤ places
-      quantity-room p e d q h = leb-true _ _ (sym (quantity-fits p e d q) ∙ fit-as _ h)
+      quantity-room p e d q h = leb-true _ _ (sym (quantity-fits p e d q) ∙ fit_as _ h)
 
       pub holder-room : (p d v : ℕ) → body ≡ Holder p d v
           → length (record_row holder_size (pack_value holder_size p d v) (take b.holders o.holders)) ≤ places
-      holder-room p d v h = leb-true _ _ (sym (holder-fits p d v) ∙ fit-as _ h)
+      holder-room p d v h = leb-true _ _ (sym (holder-fits p d v) ∙ fit_as _ h)
 
       pub state-room : (p d v : ℕ) → body ≡ State p d v
           → length (record_row state_size (pack_value state_size p d v) (take b.states o.states)) ≤ places
-      state-room p d v h = leb-true _ _ (sym (state-fits p d v) ∙ fit-as _ h)
+      state-room p d v h = leb-true _ _ (sym (state-fits p d v) ∙ fit_as _ h)

@@ -2,10 +2,7 @@
 use Prim.Native.Nat.{ℕ, ◌≤◌, ◌<◌}
 use mathlib.Core.Path.{◌≡◌, refl}
 use mathlib.Core.Bool.{true, false≢true}
-use mathlib.Core.List.{[], ◌∷◌}
 use mathlib.Core.Option.{some}
-use types.Run.{OneOf, miss}
-use denote.Enum.Declared.{tag_of}
 use lib.ListN.{length, take}
 use native.Mathlib.Nat.{mul-le-mul_right}
 use native.Mathlib.Omega.{arith}
@@ -14,7 +11,6 @@ use Rattle.rules.specs.Sizes.{most_points}
 use Rattle.rules.specs.declared.Book.{Book}
 use Rattle.rules.specs.declared.Body.{Body}
 use Rattle.rules.specs.declared.Body.TheVariants.{Link, Stop, Quantity, Holder, State, Reading, Block, Round}
-use Rattle.rules.specs.contracts.Body.{the_type}
 use Rattle.rules.specs.World.{rows_of, month_first, month_days, reading_at}
 use Rattle.rules.specs.WellFormed.{reading_count}
 use Rattle.rules.specs.Questions.{point_of}
@@ -22,7 +18,7 @@ use Rattle.rules.specs.Effects.{writes_row}
 use Rattle.rules.specs.Whole.{Dated}
 use Rattle.rules.specs.Ready.{Ready}
 use Rattle.rules.specs.Lent.{Lists, opening_in, tables_in}
-use Rattle.rules.proofs.Passed.{own-quantity, own-reading, element-link, element-stop, element-quantity, point-inside}
+use Rattle.rules.proofs.Passed.{own-quantity, own-reading, element_link, element_stop, element-quantity, point-inside}
 use Rattle.recording.specs.Recorded.{RowFits, ReadingFits}
 
 module _ (b : Book) (o : Lists) where
@@ -38,13 +34,13 @@ module _ (b : Book) (o : Lists) where
   unfolding rows_of point_of writes_row
   row_fits (Link p e d q) h r =
       let i = inside (Link p e d q) p r refl in
-      let j = (element-link (opening_in b o) (tables_in b o) p e d q r.element).0 in
+      let j = (element_link (opening_in b o) (tables_in b o) p e d q r.element).0 in
       let k = r.limited.elements in
       let s = r.range in
       (record { point = omega arith; element = omega arith }, record { day = omega arith }, omega arith)
   row_fits (Stop p e d) h r =
       let i = inside (Stop p e d) p r refl in
-      let j = element-stop (opening_in b o) (tables_in b o) p e d r.element in
+      let j = element_stop (opening_in b o) (tables_in b o) p e d r.element in
       let k = r.limited.elements in
       let s = r.range in
       (record { point = omega arith; element = omega arith }, record { day = omega arith })
@@ -81,19 +77,21 @@ module _ (b : Book) (o : Lists) where
       }
 
   -- message 7
-  pub block-fits : (p v : ℕ) → length o.blocks ≡ b.points → Ready (opening_in b o) (tables_in b o) (Block p v)
+  pub block_fits : (p v : ℕ) → length o.blocks ≡ b.points → Ready (opening_in b o) (tables_in b o) (Block p v)
       → (p < length o.blocks) × (v ≤ 1)
   unfolding point_of
-  block-fits p v l r = (rw l (point-inside (opening_in b o) (tables_in b o) (Block p v) p refl r.point), r.range)
+  block_fits p v l r = (rw l (point-inside (opening_in b o) (tables_in b o) (Block p v) p refl r.point), r.range)
 
 -- what the tag of a message says, where the code has told readings, blocks and rounds apart
-pub writes_row_lem : (x : Body) → OneOf (0 ∷ 1 ∷ 2 ∷ 3 ∷ 4 ∷ []) (tag_of the_type x) → writes_row x ≡ true
+pub writes_row_lem : (x : Body) → ((p d h n : ℕ) → x ≡ Reading p d h n → ⊥)
+    → ((p v : ℕ) → x ≡ Block p v → ⊥)
+    → (x ≡ Round → ⊥) → writes_row x ≡ true
 unfolding writes_row
-writes_row_lem (Link p e d q) h = refl
-writes_row_lem (Stop p e d) h = refl
-writes_row_lem (Quantity p e d q) h = refl
-writes_row_lem (Holder p d v) h = refl
-writes_row_lem (State p d v) h = refl
-writes_row_lem (Reading p d h n) k = absurd (miss (0 ∷ 1 ∷ 2 ∷ 3 ∷ 4 ∷ []) 5 tt k)
-writes_row_lem (Block p v) h = absurd (miss (0 ∷ 1 ∷ 2 ∷ 3 ∷ 4 ∷ []) 6 tt h)
-writes_row_lem Round h = absurd (miss (0 ∷ 1 ∷ 2 ∷ 3 ∷ 4 ∷ []) 7 tt h)
+writes_row_lem (Link p e d q) not_reading not_block not_round = refl
+writes_row_lem (Stop p e d) not_reading not_block not_round = refl
+writes_row_lem (Quantity p e d q) not_reading not_block not_round = refl
+writes_row_lem (Holder p d v) not_reading not_block not_round = refl
+writes_row_lem (State p d v) not_reading not_block not_round = refl
+writes_row_lem (Reading p d h n) not_reading not_block not_round = absurd (not_reading p d h n refl)
+writes_row_lem (Block p v) not_reading not_block not_round = absurd (not_block p v refl)
+writes_row_lem Round not_reading not_block not_round = absurd (not_round refl)

@@ -5,7 +5,7 @@ ghost use Rattle.rules.specs.Rows.{pack_period, insert_row, pack_value, record_r
 ghost use Rattle.rules.specs.Sizes.{day_room, places, quantity_room};
 ghost use Rattle.rules.specs.WellFormed.{rows_fit};
 ghost use Rattle.rules.specs.Effects.{told};
-ghost use Rattle.rules.specs.Lent.{Lists, opening_in, tables_in, lend_rows, lend_readings, left, was};
+ghost use Rattle.rules.specs.Lent.{Lists, opening_in, tables_in, lend_rows, lend_readings};
 ghost use Rattle.tables.specs.Order.{LinkRows, ValueRows, ClearBehind, TableRows, PairFits, DayFits, PointFits};
 ghost use Rattle.tables.specs.Search.{Changed};
 ghost use Rattle.facts.specs.Links.{link_ends};
@@ -36,7 +36,7 @@ pub fn rows_fit_after(
     requires table_rows { TableRows book links.now holders.now states.now }
     requires row_fits { RowFits (take book.periods links.now) body }
     ensures { (o : Lists) →
-        let t = lend_rows (was links) (was holders) (was states) o in
+        let t = lend_rows links.now holders.now states.now o in
         result ≡ rows_fit (told (opening_in book t) (tables_in book t) body) }
 {
     match body {
@@ -105,7 +105,7 @@ fn write_period(
 ) -> usize
     requires link_rows { LinkRows links.old used × ClearBehind links.old used × (used < places) }
     requires pair_fits { PairFits point element × DayFits day × (ends < day_room) × (quantity < quantity_room) }
-    ensures { Changed (insert_row (pack_period point element day ends quantity) (take used (was links))) (left links) result }
+    ensures { Changed (insert_row (pack_period point element day ends quantity) (take used links.old)) links.new result }
 {
     insert(
         links,
@@ -120,7 +120,7 @@ fn write_value(table: &mut [u64], used: usize, size: u64, point: u64, day: u64, 
     requires value_rows { ValueRows size table.old used × ClearBehind table.old used }
     requires point_fits { PointFits size point × DayFits day × (value < size) }
     requires table_len_bound { length (record_row size (pack_value size point day value) (take used table.old)) ≤ places }
-    ensures { Changed (record_row size (pack_value size point day value) (take used (was table))) (left table) result }
+    ensures { Changed (record_row size (pack_value size point day value) (take used table.old)) table.new result }
 {
     record_value(table, used, size, pack_value(size, point, day, value))
 }
@@ -140,9 +140,9 @@ pub fn write_rows(
         let t = lend_rows links.old holders.old states.old o in
         rows_fit (told (opening_in book t) (tables_in book t) body) ≡ true }
     ensures { (o : Lists) →
-        let t = lend_rows (was links) (was holders) (was states) o in
+        let t = lend_rows links.old holders.old states.old o in
         ends ≡ link_ends (opening_in book t) (tables_in book t) body →
-        RecordedAs book t body result (lend_rows (left links) (left holders) (left states) o) }
+        RecordedAs book t body result (lend_rows links.new holders.new states.new o) }
 {
     let periods = book.periods as usize;
     match body {
@@ -190,7 +190,7 @@ pub fn write_rows(
 pub fn write_reading(book: Book, readings: &mut [u32], point: u64, day: u64, hour: u64, energy: u64)
     requires { ReadingFits book readings.old point day hour energy }
     ensures { (o : Lists) →
-        RecordedAs book (lend_readings (was readings) o) (Reading point day hour energy) book (lend_readings (left readings) o) }
+        RecordedAs book (lend_readings readings.old o) (Reading point day hour energy) book (lend_readings readings.new o) }
 {
     let at = reading_place(book, point, day, hour);
     readings[at] = energy as u32;
@@ -199,7 +199,7 @@ pub fn write_reading(book: Book, readings: &mut [u32], point: u64, day: u64, hou
 // Message 7. Constant time.
 pub fn write_block(blocks: &mut [u8], point: u64, blocked: u64)
     requires { (point < length blocks.old) × (blocked ≤ 1) }
-    ensures { left blocks ≡ set (was blocks) point blocked }
+    ensures { blocks.new ≡ set blocks.old point blocked }
 {
     let at = point as usize;
     blocks[at] = blocked as u8;

@@ -1,7 +1,7 @@
 // What an opening writes: a book in which no row is in use and which keeps the dates of its month, and zeros into every table.
 ghost use Rattle.std.specs.Prelude.{◌≡◌, pos, length, replicate};
 ghost use Rattle.calendar.specs.Gregorian.{InRange};
-ghost use Rattle.rules.specs.Lent.{Lists, lend_tables, left, was};
+ghost use Rattle.rules.specs.Lent.{Lists, lend_tables};
 ghost use Rattle.recording.specs.Opened.{named_book, fresh_book, cleared};
 
 use calendar::{days_in_month, first_day};
@@ -41,7 +41,7 @@ pub fn fresh_book(year: u64, month: u64, points: u64, suppliers: u64, elements: 
 
 // Every reading is 0. Linear in the readings lent.
 fn clear_readings(readings: &mut [u32])
-    ensures { left readings ≡ replicate (length (was readings)) 0 }
+    ensures { readings.new ≡ replicate (length readings.old) 0 }
 {
     let mut i = 0;
     while i < readings.len() {
@@ -52,7 +52,7 @@ fn clear_readings(readings: &mut [u32])
 
 // Every block mark is 0. Linear in the marks lent.
 fn clear_blocks(blocks: &mut [u8])
-    ensures { left blocks ≡ replicate (length (was blocks)) 0 }
+    ensures { blocks.new ≡ replicate (length blocks.old) 0 }
 {
     let mut i = 0;
     while i < blocks.len() {
@@ -63,7 +63,7 @@ fn clear_blocks(blocks: &mut [u8])
 
 // Every number of every line is 0. Linear in the numbers lent.
 fn clear_lines(lines: &mut [i64])
-    ensures { left lines ≡ replicate (length (was lines)) (pos 0) }
+    ensures { lines.new ≡ replicate (length lines.old) (pos 0) }
 {
     let mut i = 0;
     while i < lines.len() {
@@ -83,8 +83,8 @@ pub fn clear_tables(
     sent: &mut [i64],
 )
     ensures { (o : Lists) →
-        lend_tables (left links) (left holders) (left states) (left readings) (left blocks) (left lines) (left sent) o
-        ≡ cleared (lend_tables (was links) (was holders) (was states) (was readings) (was blocks) (was lines) (was sent) o) }
+        lend_tables links.new holders.new states.new readings.new blocks.new lines.new sent.new o
+        ≡ cleared (lend_tables links.old holders.old states.old readings.old blocks.old lines.old sent.old o) }
 {
     clear(links);
     clear(holders);

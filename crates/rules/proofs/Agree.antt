@@ -13,7 +13,8 @@ use native.Mathlib.Nat.{mul-le-mul_right}
 use Rattle.rules.specs.Sizes.{day_room, element_room, end_of_days, holder_size, hour_places, quantity_room, state_size}
 use Rattle.rules.specs.declared.Body.{Body}
 use Rattle.rules.specs.declared.Body.TheVariants.{Link, Stop, Quantity, Holder, State, Reading, Block, Round}
-use Rattle.rules.specs.Rows.{pack_period, of_pair, covers, quantity_on, starts_on, next_start, insert_row, stop_rows, split_rows, pack_value}
+use Rattle.rules.specs.Rows.{pack_period, of_pair, covers, quantity_on, starts_on, next_start, insert_row, stop_rows}
+use Rattle.rules.specs.Rows.{split_rows, pack_value}
 use Rattle.rules.specs.Rows.{recorded_on, record_row}
 use Rattle.rules.specs.World.{Opening, Tables, rows_of, kind_of, month_first, month_days, reading_at, energy_of}
 use Rattle.rules.specs.WellFormed.{reading_count}
@@ -22,17 +23,17 @@ use Rattle.rules.specs.Effects.{with_links, with_holders, with_states, with_read
 use Rattle.rules.specs.Fresh.{Fresh, here, no_start, reaches, goes_on, relinked, heard}
 use Rattle.rules.proofs.Tests.{tests, cases, both, eqb_comm}
 use Rattle.rules.proofs.Ranges.{all_cong}
-use Rattle.rules.proofs.Words.{pair-pack, pair-pack-same, covers-is}
-use Rattle.rules.proofs.Values.{recorded-pack}
+use Rattle.rules.proofs.Words.{pair_pack, pair_pack_same, covers-is}
+use Rattle.rules.proofs.Values.{recorded_pack}
 use Rattle.rules.specs.Order.{Run, linked_in}
 use Rattle.rules.proofs.Runs.{covered}
-use Rattle.rules.proofs.Reach.{goes_on, no_start, next-after}
-use Rattle.rules.proofs.Changes.{quantity_insert, starts_insert, clear, quantity-stop, starts-stop, quantity-stop-other}
-use Rattle.rules.proofs.Changes.{starts-stop-other, quantity-split, starts-split, quantity-split-other, starts-split-other}
+use Rattle.rules.proofs.Reach.{goes_on_lem, no_start_lem, next-after}
+use Rattle.rules.proofs.Changes.{quantity_insert, starts_insert, clear, quantity_stop, starts_stop, quantity_stop_other}
+use Rattle.rules.proofs.Changes.{starts_stop_other, quantity_split, starts_split, quantity_split_other, starts_split_other}
 use Rattle.rules.proofs.PeriodsRight.{packed}
 use Rattle.rules.proofs.Parts.{rows_table, links-run}
 use Rattle.rules.specs.Ready.{Ready}
-use Rattle.rules.proofs.Passed.{own-link, own-quantity, own-reading, element-link, element-stop, element-quantity, point-inside}
+use Rattle.rules.proofs.Passed.{own_link, own-quantity, own-reading, element_link, element_stop, element-quantity, point-inside}
 
 pub record Agree (op : Opening) (t : Tables) (s : Fresh) : Type 0 where
   pub holder : (p d : ℕ) → recorded_on holder_size (rows_of t.holders) p d ≡ s.holder p d
@@ -75,15 +76,15 @@ module _ (op : Opening) (t : Tables) (s : Fresh) (ag : Agree op t s) where
     reading = unfold energy_of in ag.reading;
   }
 
-  agree-stop : (p e a : ℕ) → e < element_room → a < day_room → Agree op (told op t (Stop p e a)) (heard op s (Stop p e a))
+  agree_stop : (p e a : ℕ) → e < element_room → a < day_room → Agree op (told op t (Stop p e a)) (heard op s (Stop p e a))
   unfolding told heard
-  agree-stop p e a he ha =
+  agree_stop p e a he ha =
       agree-links (stop_rows p e a (rows_of t.links)) p e
       (λ d old. cond (leb a d) 0 old) (λ d old. not (leb a d) && old)
-      (λ d. quantity-stop p e a d he ha (rows_of t.links))
-      (λ d. starts-stop p e a d he ha (rows_of t.links))
-      (λ p' e' d n. quantity-stop-other p e p' e' he n a d ha (rows_of t.links))
-      (λ p' e' d n. starts-stop-other p e p' e' he n a d ha (rows_of t.links))
+      (λ d. quantity_stop p e a d he ha (rows_of t.links))
+      (λ d. starts_stop p e a d he ha (rows_of t.links))
+      (λ p' e' d n. quantity_stop_other p e p' e' he n a d ha (rows_of t.links))
+      (λ p' e' d n. starts_stop_other p e p' e' he n a d ha (rows_of t.links))
 
   -- the days that go on are the same by the tables
   same-run : (p e a d : ℕ) → goes_on (s.start p e) (s.quantity p e) a d ≡ goes_on (starts_on (rows_of t.links) p e)
@@ -102,12 +103,12 @@ module _ (op : Opening) (t : Tables) (s : Fresh) (ag : Agree op t s) where
   agree-quantity r p e a q he ha hq l =
       agree-links (split_rows p e a q (rows_of t.links)) p e
       (λ d old. cond (leb a d && goes_on (s.start p e) (s.quantity p e) a d) q old) (λ d old. eqb d a || old)
-      (λ d. quantity-split p e a q d he ha hq r l ∙ cases (leb a d)
-      (λ c. rw (c, same-run p e a d, goes_on p e a d r l (omega (arith, tests))))
+      (λ d. quantity_split p e a q d he ha hq r l ∙ cases (leb a d)
+      (λ c. rw (c, same-run p e a d, goes_on_lem p e a d r l (omega (arith, tests))))
       (λ c. rw c))
-      (λ d. starts-split p e a q d he ha hq (rows_of t.links) l)
-      (λ p' e' d n. quantity-split-other p e p' e' he n a d ha (rows_of t.links) q hq)
-      (λ p' e' d n. starts-split-other p e p' e' he n a d ha (rows_of t.links) q hq)
+      (λ d. starts_split p e a q d he ha hq (rows_of t.links) l)
+      (λ p' e' d n. quantity_split_other p e p' e' he n a d ha (rows_of t.links) q hq)
+      (λ p' e' d n. starts_split_other p e p' e' he n a d ha (rows_of t.links) q hq)
 
 -- where a link ends
 link_end_lem : (op : Opening) (t : Tables) (p e a : ℕ)
@@ -126,9 +127,10 @@ link_ends_lem op t p e a ha = let n = next-after p e a (rows_of t.links) ha in r
 
 module _ (op : Opening) (t : Tables) (s : Fresh) (ag : Agree op t s) where
   -- the days that a link reaches are those of its period
-  link-reaches : (p e a d : ℕ) → a < end_of_days → (leb a d && ltb d (link_end op t p e a)) ≡ reaches (eqb (kind_of op e) 2) (s.start p e) a d
+  link_reaches : (p e a d : ℕ) → a < end_of_days
+      → (leb a d && ltb d (link_end op t p e a)) ≡ reaches (eqb (kind_of op e) 2) (s.start p e) a d
   unfolding reaches
-  link-reaches p e a d ha = let m = next-after p e a (rows_of t.links) ha in rw (link_end_lem op t p e a) (cases (eqb (kind_of op e) 2)
+  link_reaches p e a d ha = let m = next-after p e a (rows_of t.links) ha in rw (link_end_lem op t p e a) (cases (eqb (kind_of op e) 2)
       (λ c. rw c (cases (leb a d)
       (λ u. rw u (cases (eqb d a)
       (λ v. rw v (omega (arith, tests)))
@@ -136,28 +138,28 @@ module _ (op : Opening) (t : Tables) (s : Fresh) (ag : Agree op t s) where
       (λ u. rw u (sym (omega (arith, tests))))))
       (λ c. rw c (cases (leb a d)
       (λ u. rw u (cases (ltb d end_of_days)
-      (λ v. rw (v, same_next op t s ag p e a d, no_start p e a d (rows_of t.links) (omega (arith, tests)) (omega (arith, tests))))
+      (λ v. rw (v, same_next op t s ag p e a d, no_start_lem p e a d (rows_of t.links) (omega (arith, tests)) (omega (arith, tests))))
       (λ v. rw v (omega (arith, tests)))))
       (λ u. rw u))))
 
-  agree-link : (p e a q : ℕ) → e < element_room → a < end_of_days → q < quantity_room
+  agree_link : (p e a q : ℕ) → e < element_room → a < end_of_days → q < quantity_room
       → linked_in (rows_of t.links) p e a ≡ false
       → Agree op (told op t (Link p e a q)) (heard op s (Link p e a q))
   unfolding told heard
-  agree-link p e a q he ha hq l =
+  agree_link p e a q he ha hq l =
       let b = link_end op t p e a in
       let m = link_ends_lem op t p e a ha in
       let r = pack_period p e a b q in
       let f = packed p e a b q he (omega arith) (omega arith) hq in
-      let o = pair-pack-same p e a b q he (omega arith) (omega arith) hq in
+      let o = pair_pack_same p e a b q he (omega arith) (omega arith) hq in
       let c : (d : ℕ) → covers p e d r ≡ (leb a d && ltb d b) = λ d. simp (covers-is, o, f.first, f.end) in
       let c' : (p' e' d : ℕ) → (eqb p p' && eqb e e') ≡ false → of_pair p' e' r ≡ false =
-      λ p' e' d n. pair-pack p e a b q he (omega arith) (omega arith) hq p' e' ∙ n in
+      λ p' e' d n. pair_pack p e a b q he (omega arith) (omega arith) hq p' e' ∙ n in
       agree-links op t s ag (insert_row r (rows_of t.links)) p e
       (λ d old. cond (reaches (eqb (kind_of op e) 2) (s.start p e) a d) q old) (λ d old. eqb d a || old)
       (λ d. quantity_insert r p e d (rows_of t.links)
       (λ k. let n = covered p e d r k in clear p e a b d (rows_of t.links) l m.1 (omega arith) (omega arith))
-      ∙ rw (c d, link-reaches p e a d ha, f.quantity))
+      ∙ rw (c d, link_reaches p e a d ha, f.quantity))
       (λ d. starts_insert r p e d (rows_of t.links) ∙ rw (o, f.first, eqb_comm a d))
       (λ p' e' d n. quantity_insert r p' e' d (rows_of t.links)
       (λ k. absurd (false≢true (simp (covers-is, c' p' e' d n) at k)))
@@ -170,7 +172,7 @@ module _ (op : Opening) (t : Tables) (s : Fresh) (ag : Agree op t s) where
   unfolding told heard with_holders
   agree-holder p a h ha hh = record {
     holder = λ p' d. rw (rows_table (record_row holder_size (pack_value holder_size p a h) (rows_of t.holders)))
-        (recorded-pack holder_size p a h ha hh (rows_of t.holders) p' d ∙ ap (cond (here p a p' d) (some h)) (ag.holder p' d));
+        (recorded_pack holder_size p a h ha hh (rows_of t.holders) p' d ∙ ap (cond (here p a p' d) (some h)) (ag.holder p' d));
     state = ag.state;
     quantity = ag.quantity;
     start = ag.start;
@@ -182,7 +184,7 @@ module _ (op : Opening) (t : Tables) (s : Fresh) (ag : Agree op t s) where
   agree-state p a v ha hv = record {
     holder = ag.holder;
     state = λ p' d. rw (rows_table (record_row state_size (pack_value state_size p a v) (rows_of t.states)))
-        (recorded-pack state_size p a v ha hv (rows_of t.states) p' d ∙ ap (cond (here p a p' d) (some v)) (ag.state p' d));
+        (recorded_pack state_size p a v ha hv (rows_of t.states) p' d ∙ ap (cond (here p a p' d) (some v)) (ag.state p' d));
     quantity = ag.quantity;
     start = ag.start;
     reading = unfold energy_of in ag.reading;
@@ -236,9 +238,9 @@ module _ (op : Opening) (t : Tables) (s : Fresh) (ag : Agree op t s) where
         ∙ ap (cond (here p a p' d && eqb h' h) n) (ag.reading p' d h' kp k1 k2 kh);
   }
 
-  agree-block : (p b : ℕ) → Agree op (told op t (Block p b)) (heard op s (Block p b))
+  agree_block : (p b : ℕ) → Agree op (told op t (Block p b)) (heard op s (Block p b))
   unfolding told heard with_blocks
-  agree-block p b = record {
+  agree_block p b = record {
     holder = ag.holder;
     state = ag.state;
     quantity = ag.quantity;
@@ -255,14 +257,14 @@ pub agree-told : (op : Opening) (t : Tables) (s : Fresh) (b : Body) → Ready op
 unfolding point_of
 agree-told op t s (Link p e a q) r ag =
     let c = r.limited in
-    let k = element-link op t p e a q r.element in
+    let k = element_link op t p e a q r.element in
     let m = r.range in
-    agree-link op t s ag p e a q (omega arith) m.0 (omega arith) (own-link op t p e a q r.right r.own)
+    agree_link op t s ag p e a q (omega arith) m.0 (omega arith) (own_link op t p e a q r.right r.own)
 agree-told op t s (Stop p e a) r ag =
     let c = r.limited in
-    let k = element-stop op t p e a r.element in
+    let k = element_stop op t p e a r.element in
     let m = r.range in
-    agree-stop op t s ag p e a (omega arith) (omega arith)
+    agree_stop op t s ag p e a (omega arith) (omega arith)
 agree-told op t s (Quantity p e a q) r ag =
     let c = r.limited in
     let k = element-quantity op t p e a q r.element in
@@ -275,5 +277,5 @@ agree-told op t s (Reading p a h n) r ag =
     let m = r.range in
     let d = own-reading op t p a h n r.own in
     agree-reading op t s ag r.readings p a h n (point-inside op t (Reading p a h n) p refl r.point) m.1 d.0 d.1
-agree-told op t s (Block p b) r ag = agree-block op t s ag p b
+agree-told op t s (Block p b) r ag = agree_block op t s ag p b
 agree-told op t s Round r ag = agree-round op t s ag

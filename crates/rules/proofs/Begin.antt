@@ -15,24 +15,25 @@ use Rattle.rules.specs.Basics.{within, chained, all_in, latest}
 use Rattle.rules.specs.Lines.{Measure, Terms, line}
 use Rattle.rules.specs.World.{Opening, World, table_of, month_first, month_days, month_dates, line_count, energy_of, amount_of}
 use Rattle.rules.specs.World.{stored_at, stored}
-use Rattle.rules.specs.WellFormed.{within_limits, rows_fit, reading_count, line_places, opening_sized, tables_sized, lines_sized, line_limit}
+use Rattle.rules.specs.WellFormed.{within_limits, rows_fit, reading_count, line_places, opening_sized, tables_sized}
+use Rattle.rules.specs.WellFormed.{lines_sized, line_limit}
 use Rattle.rules.specs.WellFormed.{line_right, lines_right, links_right, holders_right, states_right, question2, question3, question4}
 use Rattle.rules.specs.WellFormed.{dates_right, question5}
 use Rattle.rules.specs.Opening.{opening_answer, opened}
 use Rattle.rules.specs.Fresh.{nothing, fresh_facts}
 use Rattle.rules.proofs.Tests.{both}
-use Rattle.rules.proofs.Ranges.{all_true, all_same, get_d-same, latest_none}
-use Rattle.rules.proofs.Clauses.{quantity-nil, starts-nil, recorded-nil}
+use Rattle.rules.proofs.Ranges.{all_true, all_same, get_d_same, latest_none}
+use Rattle.rules.proofs.Clauses.{quantity-nil, starts_nil, recorded_nil}
 use Rattle.rules.proofs.LineLaws.{point_line_none}
-use Rattle.rules.proofs.Parts.{rows_table, table-right, tables-right}
+use Rattle.rules.proofs.Parts.{rows_table, table_right_lem, tables-right}
 use Rattle.rules.specs.Whole.{Whole}
 use Rattle.rules.proofs.Passed.{asked_passed}
 use Rattle.rules.proofs.Agree.{Agree}
 
 stored-zero : (n : ℕ) (m : Measure) (i : ℕ) → stored_at (replicate n (pos 0)) m i ≡ pos 0
 unfolding stored_at amount_of
-stored-zero n Measure.quantity i = get_d-same n i (pos 0)
-stored-zero n Measure.amount i = rw (get_d-same n (i + 1) (pos 0), get_d-same n (i + 2) (pos 0))
+stored-zero n Measure.quantity i = get_d_same n i (pos 0)
+stored-zero n Measure.amount i = rw (get_d_same n (i + 1) (pos 0), get_d_same n (i + 2) (pos 0))
 
 lines-zero : (o : Opening) (n : ℕ) → lines_right o (replicate n (pos 0)) ≡ true
 unfolding lines_right line_right line_limit
@@ -40,7 +41,7 @@ lines-zero o n = all_true _ (line_count o)
     (λ k l. rw (
       stored-zero n Measure.quantity (k * line_size),
       stored-zero n Measure.amount (k * line_size),
-      get_d-same n (k * line_size + 2) (pos 0),
+      get_d_same n (k * line_size + 2) (pos 0),
     ))
 
 sized-zero : (o : Opening) → lines_sized o (replicate (line_places o) (pos 0)) ≡ true
@@ -79,9 +80,9 @@ module _ (w : World) where
     elements = h.elements;
     right = rw (
       tables-right w.opening (opened w).position.tables record {
-        links = unfold links_right in table-right _ _ [] (unfold chained in refl) (unfold all_in in refl);
-        holders = unfold holders_right in table-right _ _ [] (unfold chained in refl) (unfold all_in in refl);
-        states = unfold states_right in table-right _ _ [] (unfold chained in refl) (unfold all_in in refl);
+        links = unfold links_right in table_right_lem _ _ [] (unfold chained in refl) (unfold all_in in refl);
+        holders = unfold holders_right in table_right_lem _ _ [] (unfold chained in refl) (unfold all_in in refl);
+        states = unfold states_right in table_right_lem _ _ [] (unfold chained in refl) (unfold all_in in refl);
         readings = all_same (λ x. leb x most_energy) (reading_count w.opening) 0 refl;
         blocks = all_same (λ x. leb x 1) w.opening.points 0 refl;
       },
@@ -92,11 +93,11 @@ module _ (w : World) where
   pub begin-agree : Agree w.opening (opened w).position.tables nothing
   unfolding opened nothing
   begin-agree = record {
-    holder = λ p d. rw (rows_table [], recorded-nil);
-    state = λ p d. rw (rows_table [], recorded-nil);
+    holder = λ p d. rw (rows_table [], recorded_nil);
+    state = λ p d. rw (rows_table [], recorded_nil);
     quantity = λ p e d. rw (rows_table [], quantity-nil);
-    start = λ p e d. rw (rows_table [], starts-nil);
-    reading = λ p d h a b c k. unfold energy_of in get_d-same (reading_count w.opening) _ 0;
+    start = λ p e d. rw (rows_table [], starts_nil);
+    reading = λ p d h a b c k. unfold energy_of in get_d_same (reading_count w.opening) _ 0;
   }
 
   pub begin-line : (m : Measure) (s e : ℕ) → stored w.opening (opened w).position.lines m s e ≡ pos 0

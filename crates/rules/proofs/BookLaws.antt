@@ -57,9 +57,9 @@ module _ (w : World) where
 
   -- ---- after an opening's questions
 
-  pub opening-passed : opening_answer w ≡ 0 → ask_book w 0 ≡ ask (question5 w) 5 0
+  pub opening_passed : opening_answer w ≡ 0 → ask_book w 0 ≡ ask (question5 w) 5 0
   unfolding opening_answer ask_book
-  opening-passed h = fifth (question2 w) (question3 w) (question4 w) (question5 w) h
+  opening_passed h = fifth (question2 w) (question3 w) (question4 w) (question5 w) h
 
   pub opening-refused : opening_answer w ≢ 0 → opening_answer w ≡ ask_book w 0
   unfolding opening_answer ask_book

@@ -44,7 +44,8 @@ count-price q x a b h k = rw mul_abs (mul-le-mul h k)
 count_millionths : (q : ℕ) (x : ℤ) (a b n : ℕ) → q ≤ a → nat_abs x ≤ b → a * b * millionth ≤ n → nat_abs (pos q *ℤ x *ℤ pos millionth) ≤ n
 count_millionths q x a b n h k l = rw mul_abs (let m : nat_abs (pos q *ℤ x) ≤ a * b = count-price q x a b h k in omega arith)
 
-pub by_kind_lem : (k : ℕ) (a b c : ℤ) (n : ℕ) → nat_abs a ≤ n → nat_abs b ≤ n → (k ≢ 1 → k ≢ 2 → nat_abs c ≤ n) → nat_abs (by_kind k a b c) ≤ n
+pub by_kind_lem : (k : ℕ) (a b c : ℤ) (n : ℕ) → nat_abs a ≤ n → nat_abs b ≤ n → (k ≢ 1 → k ≢ 2 → nat_abs c ≤ n)
+    → nat_abs (by_kind k a b c) ≤ n
 unfolding by_kind
 by_kind_lem k a b c n ha hb hc = cases (eqb k 1)
     (λ t. rw t ha)

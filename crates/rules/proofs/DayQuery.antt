@@ -24,14 +24,14 @@ pub record Smallest (f : ℕ → Bool) (a n d : ℕ) : Type 0 where
   pub before : (i : ℕ) → a ≤ i → i < d → f i ≡ false
 
 module _ (f : ℕ → Bool) where
-  pub first-none : (a n : ℕ) → first_from f a n ≡ none → (i : ℕ) → a ≤ i → i < a + n → f i ≡ false
+  pub first_none : (a n : ℕ) → first_from f a n ≡ none → (i : ℕ) → a ≤ i → i < a + n → f i ≡ false
   unfolding first_from
-  first-none a zero h i l k = absurd (omega arith)
-  first-none a (suc n) h i l k = cases (f a)
+  first_none a zero h i l k = absurd (omega arith)
+  first_none a (suc n) h i l k = cases (f a)
       (λ t. let z = rw t at h in absurd (let x : ◌≡◌ {A = ℕ} 0 1 = cc in omega arith))
       (λ t. cases (eqb i a)
       (λ e. rw (eqb-true i a e) t)
-      (λ e. first-none (suc a) n (rw t at h) i (omega (arith, tests)) (omega arith)))
+      (λ e. first_none (suc a) n (rw t at h) i (omega (arith, tests)) (omega arith)))
 
   pub first_some : (a n d : ℕ) → first_from f a n ≡ some d → Smallest f a n d
   unfolding first_from
@@ -62,28 +62,28 @@ module _ (w : World) (p : ℕ) where
   day-answered h = rw h
 
   module _ (x : Option ℕ) (h : day_query w p ≡ DayResult.answered x) where
-    not-refused : day_number w p ≡ 0
-    not-refused = sym day-number ∙ rw h
+    not_refused : day_number w p ≡ 0
+    not_refused = sym day-number ∙ rw h
 
     answered-is : earliest_without_holder w.opening w.position.tables p ≡ x
-    answered-is = let k = sym (day-answered not-refused) ∙ h in cc
+    answered-is = let k = sym (day-answered not_refused) ∙ h in cc
 
-  pub day-smallest : (d : ℕ) → day_query w p ≡ DayResult.answered (some d)
+  pub day_smallest : (d : ℕ) → day_query w p ≡ DayResult.answered (some d)
       → Smallest (lacks_holder w.opening w.position.tables p) (month_first w.opening) (month_days w.opening) d
   unfolding earliest_without_holder
-  day-smallest d h = first_some _ _ _ d (answered-is (some d) h)
+  day_smallest d h = first_some _ _ _ d (answered-is (some d) h)
 
-  pub day-none : day_query w p ≡ DayResult.answered none
+  pub day_none : day_query w p ≡ DayResult.answered none
       → (d : ℕ) → month_first w.opening ≤ d → d < month_first w.opening + month_days w.opening
       → lacks_holder w.opening w.position.tables p d ≡ false
   unfolding earliest_without_holder
-  day-none h = first-none _ _ _ (answered-is none h)
+  day_none h = first_none _ _ _ (answered-is none h)
 
   -- a day that is named is one of the calendar
   pub day-below : (d : ℕ) → day_query w p ≡ DayResult.answered (some d) → d < end_of_days
   unfolding day_number month_first month_days
   day-below d h =
-      let s = (day-smallest d h).upto in
-      let whole = (book-whole w _ (not-refused (some d) h)).0 in
+      let s = (day_smallest d h).upto in
+      let whole = (book-whole w _ (not_refused (some d) h)).0 in
       let m = month-within w.opening.year w.opening.month (lengths w whole).limited.month in
       omega arith

@@ -30,7 +30,7 @@ use Rattle.rules.specs.WellFormed.{within_limits, rows_fit, line_limit, element_
 use Rattle.rules.specs.WellFormed.{tables_right, question2, question4, question5}
 use Rattle.rules.specs.Messages.{understood, body_in}
 use Rattle.rules.specs.Questions.{point_of}
-use Rattle.rules.specs.Effects.{told, moved_line, moved_lines, is_round, sent_after, records, written, written_by, records_of, tables_after}
+use Rattle.rules.specs.Effects.{told, moved_line, moved_lines, is_round, sent_after, written, written_by, records_of, tables_after}
 use Rattle.rules.specs.Effects.{lines_after, posted, question17, answer, accepted, step_by, step}
 use Rattle.rules.specs.Opening.{opening_answer, opened}
 use Rattle.rules.specs.Queries.{line_query, line_named, line_given, own_line, named}
@@ -41,18 +41,18 @@ use Rattle.rules.specs.Claim.{LastStands, Holds, reached_limit, Kept, Demand3}
 use Rattle.rules.proofs.Tests.{cases, both, none_some}
 use Rattle.rules.proofs.Ranges.{all-at, latest-high}
 use Rattle.rules.proofs.ValuesRight.{recorded_high}
-use Rattle.rules.proofs.LineLaws.{line-cong, line_but, point_line_none, lines-total}
+use Rattle.rules.proofs.LineLaws.{line_cong, line_but, point_line_none, lines-total}
 use Rattle.rules.proofs.Bounds.{line_small}
 use Rattle.rules.proofs.Stored.{stored_lines, lines-right}
 use Rattle.rules.proofs.Rounds.{total-round, stored_line, last-round, each-balance}
 use Rattle.rules.specs.Whole.{Limits, TablesRight, Whole}
-use Rattle.rules.proofs.Parts.{limits, table-each, tables_parts}
+use Rattle.rules.proofs.Parts.{limits, table_each, tables_parts}
 use Rattle.rules.proofs.Passed.{about, round-body, behind, refused_17, taken}
 use Rattle.rules.specs.Ready.{Ready}
 use Rattle.rules.proofs.Agree.{Agree, agree-told}
 use Rattle.rules.proofs.Kept.{told-right, posted-whole}
 use Rattle.rules.proofs.FreshLaws.{heard_other, same-unmoved, same-agree}
-use Rattle.rules.proofs.LineQuery.{query-stored, named-stored}
+use Rattle.rules.proofs.LineQuery.{query_stored, named-stored}
 use Rattle.rules.proofs.Small.{bounded}
 use Rattle.rules.proofs.Begin.{passed, begin-whole, begin-agree, begin-line, begin-sent, line-nothing}
 
@@ -114,7 +114,7 @@ line-fresh : (counts : ℕ → Bool) (o : Opening) (t : Tables) (f : Fresh) → 
     → line (terms_by counts o) (facts_of o t) m s e ≡ line (terms_by counts o) (fresh_facts f) m s e
 unfolding terms_by
 line-fresh counts o t f a m s e =
-    line-cong (terms_by counts o) (facts_of o t) (fresh_facts f) m s e (λ p k. same-agree counts o t f a p k)
+    line_cong (terms_by counts o) (facts_of o t) (fresh_facts f) m s e (λ p k. same-agree counts o t f a p k)
 
 inv_begin : (w : World) → opening_answer w ≡ 0 → Inv w.opening (begin (opened w))
 unfolding begin opened total last_record
@@ -205,7 +205,7 @@ unfolding fresh_facts holders_right
 holder-high o t f a r p d =
     latest-high (f.holder p) o.suppliers d
     (λ i v e. recorded_high holder_size 0 o.suppliers o (rows_of t.holders) p i v
-    (table-each (earlier holder_size) (value_right holder_size 0 o.suppliers o) t.holders r.holders) (a.holder p i ∙ e))
+    (table_each (earlier holder_size) (value_right holder_size 0 o.suppliers o) t.holders r.holders) (a.holder p i ∙ e))
 
 inside : (m : Measure) → reached_limit m ≤ line_limit m
 unfolding reached_limit line_limit
@@ -223,25 +223,25 @@ module _ (h : History) (o : Opening) (i : Inv o h) where
   stored-fresh m s e b = i.lines m s e b ∙ line-fresh _ h.world.opening h.world.position.tables h.fresh i.agree m s e
 
   -- a line query answers the sums of the book's own tables, and so those of fresh settlement
-  query-own : (s e : ℕ) → InBook h.world.opening s e → line_query h.world s e ≡ own_line h.world s e
-  query-own s e b = query-stored h.world i.whole s e b
+  query_own : (s e : ℕ) → InBook h.world.opening s e → line_query h.world s e ≡ own_line h.world s e
+  query_own s e b = query_stored h.world i.whole s e b
       ∙ ap₂ line_named (i.lines Measure.quantity s e b) (i.lines Measure.amount s e b)
 
-  query-fresh : (s e : ℕ) → InBook h.world.opening s e
+  query_fresh : (s e : ℕ) → InBook h.world.opening s e
       → line_query h.world s e ≡ line_given h.world.opening (fresh_facts h.fresh) s e
-  query-fresh s e b = query-stored h.world i.whole s e b
+  query_fresh s e b = query_stored h.world i.whole s e b
       ∙ ap₂ line_named (stored-fresh Measure.quantity s e b) (stored-fresh Measure.amount s e b)
 
   named-fresh : (m : Measure) (s e : ℕ) → InBook h.world.opening s e
       → named m (line_query h.world s e) ≡ line (terms_of h.world.opening) (fresh_facts h.fresh) m s e
   named-fresh m s e b = named-stored h.world i.whole s e b m ∙ stored-fresh m s e b
 
-  totals-of : (m : Measure) (e : ℕ) → e < h.world.opening.elements
+  totals_of : (m : Measure) (e : ℕ) → e < h.world.opening.elements
       → sum_to (λ s. named m (line_query h.world (suc s) e)) h.world.opening.suppliers
       ≡ sum_to (λ p. sum_to (λ d. owed_by_holder (terms_of h.world.opening) (fresh_facts h.fresh) m p e
       (month_first h.world.opening + d)) (month_days h.world.opening)) h.world.opening.points
   unfolding terms_by
-  totals-of m e k =
+  totals_of m e k =
       sum_cong _ _ h.world.opening.suppliers
       (λ s l. named-fresh m (suc s) e (record { someone = omega arith; supplier = l; element = k }))
       ∙ lines-total (terms_of h.world.opening) (fresh_facts h.fresh) m e h.world.opening.suppliers
@@ -255,26 +255,26 @@ module _ (h : History) (o : Opening) (i : Inv o h) where
       h.world.position.tables (tables_of h.world i.whole)) m s)
 
   -- what the ledger is sent: the sum of fresh settlement's lines, and no more than 64 times what a line is at most
-  ledger-fresh : (s owner : ℕ) → 1 ≤ s → s ≤ h.world.opening.suppliers
+  ledger_fresh_lem : (s owner : ℕ) → 1 ≤ s → s ≤ h.world.opening.suppliers
       → ledger_sum h.world s owner
       ≡ owned_sum h.world.opening owner (λ e. line (terms_of h.world.opening) (fresh_facts h.fresh) Measure.amount s e)
   unfolding ledger_sum owned_sum
-  ledger-fresh s owner a b = sum_cong _ _ h.world.opening.elements
+  ledger_fresh_lem s owner a b = sum_cong _ _ h.world.opening.elements
       (λ e l. rw (named-fresh Measure.amount s e (record { someone = a; supplier = b; element = l })))
 
-  ledger-small : (s owner : ℕ) → 1 ≤ s → s ≤ h.world.opening.suppliers
+  ledger_small : (s owner : ℕ) → 1 ≤ s → s ≤ h.world.opening.suppliers
       → nat_abs (ledger_sum h.world s owner) ≤ h.world.opening.elements * reached_limit Measure.amount
   unfolding ledger_sum owned_sum
-  ledger-small s owner a b = sum_abs _ (reached_limit Measure.amount) h.world.opening.elements
+  ledger_small s owner a b = sum_abs _ (reached_limit Measure.amount) h.world.opening.elements
       (λ e l. cases (eqb (owner_of h.world.opening e) owner)
       (λ t. rw t (small_of Measure.amount s e (record { someone = a; supplier = b; element = l })))
       (λ t. rw t (omega arith)))
 
-  ledger-fits : (s owner : ℕ) → 1 ≤ s → s ≤ h.world.opening.suppliers → fits (ledger_amount h.world s owner) ≡ true
+  ledger_fits_lem : (s owner : ℕ) → 1 ≤ s → s ≤ h.world.opening.suppliers → fits (ledger_amount h.world s owner) ≡ true
   unfolding fits reached_limit
-  ledger-fits s owner a b =
+  ledger_fits_lem s owner a b =
       let k = (limits_of h.world i.whole).elements in
-      let n = ledger-small s owner a b in
+      let n = ledger_small s owner a b in
       let e = nearest_abs (ledger_sum h.world s owner) ore in
       lt-ltb (nat_abs (ledger_amount h.world s owner)) (10 ^ digit_count) (omega arith)
 
@@ -288,10 +288,10 @@ module _ (h : History) (o : Opening) (i : Inv o h) where
       (tables_after h.world b)
       (unfold tables_after in told-right h.world.opening h.world.position.tables b r)) m s) (inside m)))
 
-  full-of : (v : Event) (b : Message) → understood h.world.opening.suppliers v.fields ≡ some b
+  full_of : (v : Event) (b : Message) → understood h.world.opening.suppliers v.fields ≡ some b
       → answer h.world v.fields (length v.lent) ≡ 17 → rows_fit (tables_after h.world b.body) ≡ false
   unfolding question17
-  full-of v b u e =
+  full_of v b u e =
       let k = behind h.world v.fields (length v.lent) 17 (λ n x y z. omega arith) e in
       let q : k.message ≡ b = let z : some k.message ≡ some b = sym k.is ∙ u in cc in
       let f = refused_17 h.world v.fields (length v.lent) e k in
@@ -324,13 +324,13 @@ module _ (h : History) (o : Opening) (i : Inv o h) (v : Event) (s e : ℕ) (b : 
   unfolding after step_by heard_body posted
   local-after none c z = refl
   local-after (some x) c z =
-      query-fresh (after h (some x)) o (inv_after o h i v x c) s e b
+      query_fresh (after h (some x)) o (inv_after o h i v x c) s e b
       ∙ ap₂ line_named (local-line _ x c z Measure.quantity) (local-line _ x c z Measure.amount)
-      ∙ sym (query-fresh h o i s e b)
+      ∙ sym (query_fresh h o i s e b)
 
-  local-of : (Holds h.world.opening (advance h v).fresh s v.fields.point → ⊥)
+  local_of : (Holds h.world.opening (advance h v).fresh s v.fields.point → ⊥)
       → line_query (advance h v).world s e ≡ line_query h.world s e
-  local-of z = rw (advance-is h v) (local-after (accepted h.world v.fields (length v.lent)) refl (rw (advance-is h v) at z))
+  local_of z = rw (advance-is h v) (local-after (accepted h.world v.fields (length v.lent)) refl (rw (advance-is h v) at z))
 
 -- an accepted message of kind 8 is a round
 round-accepted : (w : World) (v : Event) → v.fields.kind ≡ 8 → answer w v.fields (length v.lent) ≡ 0
@@ -363,7 +363,7 @@ pub round-line : (w : World) → Whole (posted w Round) → (s e : ℕ) → InBo
     → stored_line w.opening w.position.lines s e ≡ line_query (posted w Round) s e
 unfolding posted lines_after moved_lines moved_line tables_after told
 round-line w c s e b =
-    ap₂ line_named (same Measure.quantity) (same Measure.amount) ∙ sym (query-stored (posted w Round) c s e b)
+    ap₂ line_named (same Measure.quantity) (same Measure.amount) ∙ sym (query_stored (posted w Round) c s e b)
   where
     same : (m : Measure) → stored w.opening w.position.lines m s e
         ≡ stored w.opening (posted w Round).position.lines m s e
@@ -430,7 +430,7 @@ module _ (w : World) (a : opening_answer w ≡ 0) (vs : List Event) where
     local-next = subst (λ o. (s e : ℕ) → InBook o s e → (Holds o x.fresh s v.fields.point → ⊥)
         → (Holds o (reached w (vs ++ (v ∷ []))).fresh s v.fields.point → ⊥)
         → line_query (reached w (vs ++ (v ∷ []))).world s e ≡ line_query x.world s e)
-        i.opening (λ s e b n r. rw (snoc v) (local-of x w.opening i v s e b n (rw (snoc v) at r)))
+        i.opening (λ s e b n r. rw (snoc v) (local_of x w.opening i v s e b n (rw (snoc v) at r)))
 
     rounds-next : v.fields.kind ≡ 8 → answer x.world v.fields (length v.lent) ≡ 0
         → (m : Measure) (s e : ℕ) → InBook w.opening s e
@@ -454,7 +454,7 @@ module _ (w : World) (a : opening_answer w ≡ 0) (vs : List Event) where
         → answer x.world v.fields (length v.lent) ≡ 17 → rows_fit (tables_after x.world b.body) ≡ false
     full-next = subst (λ (o : Opening). (b : Message) → understood o.suppliers v.fields ≡ some b
         → answer x.world v.fields (length v.lent) ≡ 17 → rows_fit (tables_after x.world b.body) ≡ false)
-        i.opening (full-of x w.opening i v)
+        i.opening (full_of x w.opening i v)
 
 -- the opening stays
 pub reached-opening : (w : World) → opening_answer w ≡ 0 → (vs : List Event) → (reached w vs).world.opening ≡ w.opening
@@ -468,8 +468,8 @@ module _ (w : World) (a : opening_answer w ≡ 0) (vs : List Event) where
       let j = i w a vs in
       record {
         fresh = subst (λ o. (s e : ℕ) → InBook o s e → line_query h.world s e ≡ line_given o (fresh_facts h.fresh) s e)
-            j.opening (query-fresh h w.opening j);
-        sums = λ s e b. query-own h w.opening j s e (subst (λ o. InBook o s e) (sym j.opening) b);
+            j.opening (query_fresh h w.opening j);
+        sums = λ s e b. query_own h w.opening j s e (subst (λ o. InBook o s e) (sym j.opening) b);
         local = λ y. local-next w a y.before y.message;
         rounds = λ y. rounds-next w a y.before y.message;
         last_balance = subst (λ o. (s e : ℕ) → InBook o s e → LastBalance s e h.records) j.opening (balance_of_lem h w.opening j);
@@ -477,17 +477,18 @@ module _ (w : World) (a : opening_answer w ≡ 0) (vs : List Event) where
         each_balance = λ y. each_next w a y.before y.message;
         totals = subst (λ (o : Opening). (m : Measure) (e : ℕ) → e < o.elements
             → sum_to (λ s. named m (line_query h.world (suc s) e)) o.suppliers
-            ≡ sum_to (λ p. sum_to (λ d. owed_by_holder (terms_of o) (fresh_facts h.fresh) m p e (month_first o + d)) (month_days o)) o.points)
-            j.opening (totals-of h w.opening j);
+            ≡ sum_to (λ p. sum_to (λ d. owed_by_holder (terms_of o) (fresh_facts h.fresh) m p e (month_first o + d)) (month_days o))
+            o.points)
+            j.opening (totals_of h w.opening j);
         whole = j.whole;
         small = subst (λ o. (m : Measure) (s e : ℕ) → InBook o s e → nat_abs (named m (line_query h.world s e)) ≤ reached_limit m)
             j.opening (small_of h w.opening j);
         full = λ y. full-next w a y.before y.message;
         ledger_fits = subst (λ (o : Opening). (s owner : ℕ) → 1 ≤ s → s ≤ o.suppliers → fits (ledger_amount h.world s owner) ≡ true)
-            j.opening (ledger-fits h w.opening j);
+            j.opening (ledger_fits_lem h w.opening j);
         ledger_fresh = subst (λ (o : Opening). (s owner : ℕ) → 1 ≤ s → s ≤ o.suppliers → ledger_sum h.world s owner
             ≡ owned_sum o owner (λ e. line (terms_of o) (fresh_facts h.fresh) Measure.amount s e))
-            j.opening (ledger-fresh h w.opening j);
+            j.opening (ledger_fresh_lem h w.opening j);
       }
 
 pub demand3 : Demand3

@@ -22,14 +22,14 @@ use Rattle.rules.specs.Effects.{with_links, with_holders, with_states, with_read
 use Rattle.rules.specs.Effects.{is_round, sent_after, tables_after, lines_after, posted, question17}
 use Rattle.rules.proofs.Tests.{cases, both}
 use Rattle.rules.proofs.Ranges.{all_set}
-use Rattle.rules.proofs.PeriodsRight.{packed, run-chained, run-insert, run-stop, run-split, right-pack, right-insert, right-stop}
-use Rattle.rules.proofs.PeriodsRight.{right-split}
-use Rattle.rules.proofs.ValuesRight.{record-chained, record-right, value-right}
+use Rattle.rules.proofs.PeriodsRight.{packed, run-chained, run_insert, run_stop, run_split, right_pack, right_insert, right_stop}
+use Rattle.rules.proofs.PeriodsRight.{right_split}
+use Rattle.rules.proofs.ValuesRight.{record_chained, record_right, value-right}
 use Rattle.rules.proofs.Stored.{length-lines}
-use Rattle.rules.proofs.Parts.{table-ordered, table-each, table-right, tables-right, links-each, links-run}
+use Rattle.rules.proofs.Parts.{table_ordered, table_each, table_right_lem, tables-right, links-each, links-run}
 use Rattle.rules.specs.Whole.{TablesRight, Whole}
 use Rattle.rules.specs.Ready.{Ready}
-use Rattle.rules.proofs.Passed.{own-link, own-quantity, element-link, element-stop, element-quantity, point-inside}
+use Rattle.rules.proofs.Passed.{own_link, own-quantity, element_link, element_stop, element-quantity, point-inside}
 use Rattle.rules.proofs.Agree.{link_fee, link_ends_lem}
 
 -- ---- right tables
@@ -38,7 +38,7 @@ module _ (op : Opening) (t : Tables) (k : TablesRight op t) where
   links-kept : (rows : List ℕ) → chained apart rows ≡ true → all_in (period_right op) rows ≡ true → TablesRight op (with_links t rows)
   unfolding with_links links_right
   links-kept rows c a = record {
-    links = table-right apart (period_right op) rows c a;
+    links = table_right_lem apart (period_right op) rows c a;
     holders = k.holders;
     states = k.states;
     readings = k.readings;
@@ -53,11 +53,11 @@ module _ (op : Opening) (t : Tables) (k : TablesRight op t) where
       let each = value_right holder_size 0 op.suppliers op in
       record {
         links = k.links;
-        holders = table-right order each _
-            (record-chained holder_size (omega arith) _ _ (table-ordered order each t.holders k.holders))
-            (record-right holder_size (omega arith) each _ _
+        holders = table_right_lem order each _
+            (record_chained holder_size (omega arith) _ _ (table_ordered order each t.holders k.holders))
+            (record_right holder_size (omega arith) each _ _
             (value-right holder_size (omega arith) op 0 op.suppliers p d h hp hd hv (omega arith) hs)
-            (table-each order each t.holders k.holders));
+            (table_each order each t.holders k.holders));
         states = k.states;
         readings = k.readings;
         blocks = k.blocks;
@@ -72,10 +72,10 @@ module _ (op : Opening) (t : Tables) (k : TablesRight op t) where
       record {
         links = k.links;
         holders = k.holders;
-        states = table-right order each _
-            (record-chained state_size (omega arith) _ _ (table-ordered order each t.states k.states))
-            (record-right state_size (omega arith) each _ _ (value-right state_size (omega arith) op 1 4 p d v hp hd (omega arith) h1 h4)
-            (table-each order each t.states k.states));
+        states = table_right_lem order each _
+            (record_chained state_size (omega arith) _ _ (table_ordered order each t.states k.states))
+            (record_right state_size (omega arith) each _ _ (value-right state_size (omega arith) op 1 4 p d v hp hd (omega arith) h1 h4)
+            (table_each order each t.states k.states));
         readings = k.readings;
         blocks = k.blocks;
       }
@@ -105,37 +105,37 @@ unfolding told point_of
 told-right op t (Link p e a q) r =
     let k = r.right in
     let c = r.limited in
-    let i = element-link op t p e a q r.element in
+    let i = element_link op t p e a q r.element in
     let hp = point-inside op t (Link p e a q) p refl r.point in
     let g = r.range in
     let b = link_end op t p e a in
     let m = link_ends_lem op t p e a g.0 in
     let f = packed p e a b q (omega arith) (omega arith) (omega arith) (omega arith) in
     links-kept op t k _
-    (run-chained (run-insert p e a b (pack_period p e a b q) (omega arith) f.point f.element f.first f.end (omega arith)
+    (run-chained (run_insert p e a b (pack_period p e a b q) (omega arith) f.point f.element f.first f.end (omega arith)
     m.0 {k = 0} (omega arith) m.1
-    (own-link op t p e a q k r.own) (links-run op t.links k.links)))
-    (right-insert op c.elements (pack_period p e a b q) (rows_of t.links)
-    (right-pack op c.elements p e a b q hp i.0 m.0 m.2 g.1 g.2
+    (own_link op t p e a q k r.own) (links-run op t.links k.links)))
+    (right_insert op c.elements (pack_period p e a b q) (rows_of t.links)
+    (right_pack op c.elements p e a b q hp i.0 m.0 m.2 g.1 g.2
     (λ n. let z = link_fee op t p e a n in omega arith)
     i.1)
     (links-each op t.links k.links))
 told-right op t (Stop p e a) r =
     let k = r.right in
     let c = r.limited in
-    let i = element-stop op t p e a r.element in
+    let i = element_stop op t p e a r.element in
     let g = r.range in
     links-kept op t k _
-    (run-chained (run-stop p e a (omega arith) (omega arith) (links-run op t.links k.links)))
-    (right-stop op c.elements p e a g (rows_of t.links) (links-each op t.links k.links))
+    (run-chained (run_stop p e a (omega arith) (omega arith) (links-run op t.links k.links)))
+    (right_stop op c.elements p e a g (rows_of t.links) (links-each op t.links k.links))
 told-right op t (Quantity p e a q) r =
     let k = r.right in
     let c = r.limited in
     let i = element-quantity op t p e a q r.element in
     let g = r.range in
     links-kept op t k _
-    (run-chained (run-split p e a (omega arith) (omega arith) q g.1 (omega arith) (links-run op t.links k.links)))
-    (right-split op c.elements p e a g.0 q g.1 g.2 (own-quantity op t p e a q k r.own).0 (rows_of t.links)
+    (run-chained (run_split p e a (omega arith) (omega arith) q g.1 (omega arith) (links-run op t.links k.links)))
+    (right_split op c.elements p e a g.0 q g.1 g.2 (own-quantity op t p e a q k r.own).0 (rows_of t.links)
     (links-each op t.links k.links))
 told-right op t (Holder p a h) r =
     let c = r.limited in

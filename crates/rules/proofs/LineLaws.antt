@@ -46,10 +46,10 @@ charge_cong t f g Measure.amount p e d q h =
     (λ i k. ap (λ x. pos x *ℤ t.price e d i) (h i k)))
 
 module _ (t : Terms) (f g : Facts) (m : Measure) (s e : ℕ) where
-  pub owed-cong : (p i : ℕ) → i < t.days → SameAt t f g p
+  pub owed_cong : (p i : ℕ) → i < t.days → SameAt t f g p
       → owed t f m s p e (t.first + i) ≡ owed t g m s p e (t.first + i)
   unfolding owed charged_to
-  owed-cong p i k a =
+  owed_cong p i k a =
       cc (
         a.holder i k,
         a.counts i k,
@@ -57,13 +57,13 @@ module _ (t : Terms) (f g : Facts) (m : Measure) (s e : ℕ) where
         charge_cong t f g m p e (t.first + i) (a.quantity e i k) (λ h l. a.energy i h k l),
       )
 
-  pub point_line-cong : (p : ℕ) → SameAt t f g p → point_line t f m s p e ≡ point_line t g m s p e
+  pub point_line_cong : (p : ℕ) → SameAt t f g p → point_line t f m s p e ≡ point_line t g m s p e
   unfolding point_line
-  point_line-cong p a = sum_cong _ _ t.days (λ i k. owed-cong p i k a)
+  point_line_cong p a = sum_cong _ _ t.days (λ i k. owed_cong p i k a)
 
-  pub line-cong : ((p : ℕ) → p < t.points → SameAt t f g p) → line t f m s e ≡ line t g m s e
+  pub line_cong : ((p : ℕ) → p < t.points → SameAt t f g p) → line t f m s e ≡ line t g m s e
   unfolding line
-  line-cong a = sum_cong _ _ t.points (λ p k. point_line-cong p (a p k))
+  line_cong a = sum_cong _ _ t.points (λ p k. point_line_cong p (a p k))
 
 -- a supplier who does not hold the point on a day is owed nothing
 pub owed_none : (t : Terms) (f : Facts) (m : Measure) (s p e d : ℕ) → (f.holder p d ≡ s → ⊥) → owed t f m s p e d ≡ pos 0
@@ -109,4 +109,4 @@ pub line_but : (t : Terms) (f g : Facts) (m : Measure) (s e q : ℕ) → ((p : �
 unfolding line
 line_but t f g m s e q a x y = sum_cong _ _ t.points (λ p k. cases (eqb p q)
     (λ c. rw (eqb-true p q c, x, y))
-    (λ c. point_line-cong t f g m s e p (a p k (eqb_ne p q c))))
+    (λ c. point_line_cong t f g m s e p (a p k (eqb_ne p q c))))

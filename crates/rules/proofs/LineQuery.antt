@@ -63,13 +63,13 @@ module _ (w : World) (c : Whole w) (s e : ℕ) (b : InBook w.opening s e) where
       let h = both (leb (nat_abs (stored_at w.position.lines Measure.quantity i)) (line_limit Measure.quantity)) _ right-line in
       (both (leb (nat_abs (stored_at w.position.lines Measure.amount i)) (line_limit Measure.amount)) _ h.1).1
 
-  pub query-stored : line_query w s e ≡ line_named (stored w.opening w.position.lines Measure.quantity s e)
+  pub query_stored : line_query w s e ≡ line_named (stored w.opening w.position.lines Measure.quantity s e)
       (stored w.opening w.position.lines Measure.amount s e)
   unfolding line_query line_stored line_named stored stored_at
-  query-stored =
+  query_stored =
       let i = line_at w.opening s e in
       let f = form (get_or w.position.lines (i + 1) (pos 0)) (get_or w.position.lines (i + 2) (pos 0)) third in
       rw (number, f.0, f.1)
 
   pub named-stored : (m : Measure) → named m (line_query w s e) ≡ stored w.opening w.position.lines m s e
-  named-stored m = ap (named m) query-stored ∙ names (λ m. stored w.opening w.position.lines m s e) m
+  named-stored m = ap (named m) query_stored ∙ names (λ m. stored w.opening w.position.lines m s e) m

@@ -18,9 +18,9 @@ module _ {A : Type 0} (f : ℕ → A) where
   unfolding front
   front-is n lent = refl
 
-  pub front-none : (lent : List A) → front f 0 lent ≡ lent
+  pub front_none : (lent : List A) → front f 0 lent ≡ lent
   unfolding front list_to
-  front-none lent = refl
+  front_none lent = refl
 
   pub length_front : (n : ℕ) (lent : List A) → n ≤ length lent → length (front f n lent) ≡ length lent
   unfolding front
@@ -38,8 +38,8 @@ module _ {A : Type 0} (f : ℕ → A) where
       )
       (sym (append_assoc (list_to f m) (f m ∷ []) (drop (suc m) lent)))
 
-  pub front-more : (n : ℕ) (lent : List A) → n < length lent → front f (n + 1) lent ≡ set (front f n lent) n (f n)
-  front-more n lent l = sym (front-step n (n + 1) lent (f n) l refl refl)
+  pub front_more : (n : ℕ) (lent : List A) → n < length lent → front f (n + 1) lent ≡ set (front f n lent) n (f n)
+  front_more n lent l = sym (front-step n (n + 1) lent (f n) l refl refl)
 
   -- places behind those are as lent
   pub front_rest : (m j : ℕ) (lent : List A) (z : A) → m ≤ j → get_or (front f m lent) j z ≡ get_or lent j z

@@ -55,7 +55,8 @@ unheld o t m s e h k =
 -- so a message leaves the cases' line at 0
 module _ (links states : List ℕ) (b : Body) (h : rows_of (tables_after (case_book links states) b).holders ≡ []) where
   still : lines_after (case_book links states) b ≡ replicate 3 (pos 0)
-  unfolding lines_after moved_lines lines_of list_to line_places line_count supplier_of element_of part moved_line case_book stored stored_at line_at kroner_of billionths_of amount_of
+  unfolding lines_after moved_lines lines_of list_to line_places line_count supplier_of element_of part moved_line case_book
+      stored stored_at line_at kroner_of billionths_of amount_of
   still =
       let o = (case_book links states).opening in
       let t = (case_book links states).position.tables in
@@ -89,7 +90,18 @@ record Made : Type 0 where
   links : after (case_book [] in_state) (message 1 8830 1) ≡ first_book
 
 made : Made
-unfolding opening_answer opened empty_book is_leap has_thirty days_of_month first_of_month first_day within all_to any_to all_in chained list_to when asked or_else latest pack_period period_point period_element period_first period_end period_quantity of_pair covers quantity_on starts_on next_start insert_row stop_rows split_rows pack_value value_point value_first value_of recorded_on record_row rows_of table_of month_first month_days kind_of owner_of marks_of marked is_tariff state_on linked_on line_count amount_of stored_at within_limits rows_fit question2 reading_count line_places opening_sized tables_sized lines_sized question3 price_limit price_size element_right question4 period_right apart value_right earlier table_right links_right holders_right states_right tables_right line_limit line_right lines_right dates_right question5 is_day sender_of no_hour no_element is_quantity fields_right value_fits body_named body_of both understood body_in point_of place_of question7 tariff_once question8 blocked is_grid_company is_energinet may_link may_send question9 in_time question10 question11 question12 question13 question14 question15 own_question own_number with_links with_holders with_states link_end told is_round written sent_after tables_after posted ask question18 answer_to ask_book answer accepted step_by step message after case_book first_book periods answer_and_periods naturals
+unfolding opening_answer opened empty_book is_leap has_thirty days_of_month first_of_month first_day within all_to any_to all_in
+    chained list_to when asked or_else latest pack_period period_point period_element period_first period_end period_quantity
+    of_pair covers quantity_on starts_on next_start insert_row stop_rows split_rows pack_value value_point value_first value_of
+    recorded_on record_row rows_of table_of month_first month_days kind_of owner_of marks_of marked is_tariff state_on linked_on
+    line_count amount_of stored_at within_limits rows_fit question2 reading_count line_places opening_sized tables_sized lines_sized
+    question3 price_limit price_size element_right question4 period_right apart value_right earlier table_right links_right
+    holders_right states_right tables_right line_limit line_right lines_right dates_right question5 is_day sender_of no_hour
+    no_element is_quantity fields_right value_fits body_named body_of both understood body_in point_of place_of question7
+    tariff_once question8 blocked is_grid_company is_energinet may_link may_send question9 in_time question10 question11 question12
+    question13 question14 question15 own_question own_number with_links with_holders with_states link_end told is_round written
+    sent_after tables_after posted ask question18 answer_to ask_book answer accepted step_by step message after case_book first_book
+    periods answer_and_periods naturals
 made = record {
   accepted = refl;
   opens = refl;
@@ -117,7 +129,18 @@ record Sent : Type 0 where
   unlinked : answer_and_periods first_book (message 3 8829 2) ≡ naturals (15 ∷ 8830 ∷ 36525 ∷ 1 ∷ [])
 
 sends : Sent
-unfolding opening_answer opened empty_book is_leap has_thirty days_of_month first_of_month first_day within all_to any_to all_in chained list_to when asked or_else latest pack_period period_point period_element period_first period_end period_quantity of_pair covers quantity_on starts_on next_start insert_row stop_rows split_rows pack_value value_point value_first value_of recorded_on record_row rows_of table_of month_first month_days kind_of owner_of marks_of marked is_tariff state_on linked_on line_count amount_of stored_at within_limits rows_fit question2 reading_count line_places opening_sized tables_sized lines_sized question3 price_limit price_size element_right question4 period_right apart value_right earlier table_right links_right holders_right states_right tables_right line_limit line_right lines_right dates_right question5 is_day sender_of no_hour no_element is_quantity fields_right value_fits body_named body_of both understood body_in point_of place_of question7 tariff_once question8 blocked is_grid_company is_energinet may_link may_send question9 in_time question10 question11 question12 question13 question14 question15 own_question own_number with_links with_holders with_states link_end told is_round written sent_after tables_after posted ask question18 answer_to ask_book answer accepted step_by step message after case_book first_book periods answer_and_periods naturals
+unfolding opening_answer opened empty_book is_leap has_thirty days_of_month first_of_month first_day within all_to any_to all_in
+    chained list_to when asked or_else latest pack_period period_point period_element period_first period_end period_quantity
+    of_pair covers quantity_on starts_on next_start insert_row stop_rows split_rows pack_value value_point value_first value_of
+    recorded_on record_row rows_of table_of month_first month_days kind_of owner_of marks_of marked is_tariff state_on linked_on
+    line_count amount_of stored_at within_limits rows_fit question2 reading_count line_places opening_sized tables_sized lines_sized
+    question3 price_limit price_size element_right question4 period_right apart value_right earlier table_right links_right
+    holders_right states_right tables_right line_limit line_right lines_right dates_right question5 is_day sender_of no_hour
+    no_element is_quantity fields_right value_fits body_named body_of both understood body_in point_of place_of question7
+    tariff_once question8 blocked is_grid_company is_energinet may_link may_send question9 in_time question10 question11 question12
+    question13 question14 question15 own_question own_number with_links with_holders with_states link_end told is_round written
+    sent_after tables_after posted ask question18 answer_to ask_book answer accepted step_by step message after case_book first_book
+    periods answer_and_periods naturals
 sends = record {
   again = refl;
   before = rw (fits linked in_state (Body.Link 0 0 8829 1) refl refl);

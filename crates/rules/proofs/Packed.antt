@@ -17,10 +17,12 @@ use Rattle.integers.specs.Sums.{sum_to}
 use Rattle.integers.proofs.Nearest.{nearest_half}
 use Rattle.rules.specs.Basics.{all_to, list_to, when}
 use Rattle.rules.specs.World.{Opening, owner_of, grid_company, energinet}
-use Rattle.rules.specs.Packed.{owned_sum, ore, in_ore, packed_size, digit_count, sign_above, sign_below, fits, digit_at, sign_of, packed_half, packed_byte}
-use Rattle.rules.specs.Packed.{packed_bytes, packed, half_in, digits_in, sign_in, digits_right, sign_right, is_packed, packed_amount, read_packed}
+use Rattle.rules.specs.Packed.{owned_sum, ore, in_ore, packed_size, digit_count, sign_above, sign_below, fits}
+use Rattle.rules.specs.Packed.{digit_at, sign_of, packed_half, packed_byte}
+use Rattle.rules.specs.Packed.{packed_bytes, packed, half_in, digits_in, sign_in, digits_right, sign_right}
+use Rattle.rules.specs.Packed.{is_packed, packed_amount, read_packed}
 use Rattle.rules.proofs.Tests.{tests, cases, both, none_some}
-use Rattle.rules.proofs.Ranges.{all-at, all_true, length-list_to, get_d-list_to}
+use Rattle.rules.proofs.Ranges.{all-at, all_true, length-list_to, get_d_list_to}
 
 -- ---- digits
 
@@ -63,9 +65,10 @@ unfolding half_in packed_bytes packed_byte
 half_packed size sign h k l =
     let i = h / 2 in
     let low = half_low size sign (2 * i + 1) k in
-    rw (get_d-list_to (packed_byte size sign) packed_size i 0 (omega arith))
+    rw (get_d_list_to (packed_byte size sign) packed_size i 0 (omega arith))
     (cases (eqb (h % 2) 0)
-    (λ t. let e : 2 * i ≡ h = omega (arith, tests) in rw t (upper_half (packed_half size sign (2 * i)) _ low ∙ ap (packed_half size sign) e))
+    (λ t. let e : 2 * i ≡ h = omega (arith, tests) in
+    rw t (upper_half (packed_half size sign (2 * i)) _ low ∙ ap (packed_half size sign) e))
     (λ t. let e : 2 * i + 1 ≡ h = omega (arith, tests) in
     rw t (lower_half (packed_half size sign (2 * i)) _ low ∙ ap (packed_half size sign) e)))
 
@@ -185,23 +188,23 @@ digit_low bs h i l = leb-true _ _ (all-at _ digit_count h i l)
 
 module _ (bs : List ℕ) (h : IsPacked bs) where
   -- the half-bytes are those that packing gives
-  half-read : (i : ℕ) → i < 16 → packed_half (digits_in bs digit_count) (sign_in bs) i ≡ half_in bs i
+  half_read : (i : ℕ) → i < 16 → packed_half (digits_in bs digit_count) (sign_in bs) i ≡ half_in bs i
   unfolding packed_half
-  half-read i l = cases (ltb i digit_count)
+  half_read i l = cases (ltb i digit_count)
       (λ t. rw t (digit-read bs digit_count i (digit_low bs h.digits) (ltb-true i digit_count t)))
       (λ t. let e : digit_count ≡ i = omega (arith, tests) in rw t (ap (half_in bs) e))
 
-  byte-read : (i : ℕ) → i < packed_size → get_or bs i 0 ≡ packed_byte (digits_in bs digit_count) (sign_in bs) i
+  byte_read : (i : ℕ) → i < packed_size → get_or bs i 0 ≡ packed_byte (digits_in bs digit_count) (sign_in bs) i
   unfolding packed_byte
-  byte-read i l =
-      rw (half-read (2 * i) (omega arith), half-read (2 * i + 1) (omega arith))
+  byte_read i l =
+      rw (half_read (2 * i) (omega arith), half_read (2 * i + 1) (omega arith))
       (halves_in bs i)
 
   bytes_read : bs ≡ packed_bytes (digits_in bs digit_count) (sign_in bs)
   unfolding packed_bytes
   bytes_read = ext_get_or 0 bs _ (h.eight ∙ sym (length-list_to (packed_byte (digits_in bs digit_count) (sign_in bs)) packed_size))
       (λ i l. let k : i < packed_size = rw h.eight at l in
-      byte-read i k ∙ sym (get_d-list_to (packed_byte (digits_in bs digit_count) (sign_in bs)) packed_size i 0 k))
+      byte_read i k ∙ sym (get_d_list_to (packed_byte (digits_in bs digit_count) (sign_in bs)) packed_size i 0 k))
 
   amount-read : (nat_abs (packed_amount bs) ≡ digits_in bs digit_count) × (sign_of (packed_amount bs) ≡ sign_in bs)
   unfolding packed_amount sign_right
@@ -223,7 +226,8 @@ packed-read bs a h = cases (is_packed bs)
     (λ t. let z : ◌≡◌ {A = Option ℤ} none (some a) = rw t at h in absurd (none_some a z))
 
 -- "every amount that fits has one form": the bytes that are read as it are those that packing gives, and no others
-pub one_form : (a : ℤ) → fits a ≡ true → (bs : List ℕ) → (read_packed bs ≡ some a → bs ≡ packed a) × (bs ≡ packed a → read_packed bs ≡ some a)
+pub one_form : (a : ℤ) → fits a ≡ true → (bs : List ℕ)
+    → (read_packed bs ≡ some a → bs ≡ packed a) × (bs ≡ packed a → read_packed bs ≡ some a)
 one_form a h bs = (λ r. (packed-read bs a r).0, λ p. ap read_packed p ∙ read-packed a h)
 
 -- ---- rounding
@@ -272,6 +276,7 @@ three_elements =
 abbrev three_amounts : (element : ℕ) → ℤ
 three_amounts e = get_or (pos 1 ∷ pos 20 ∷ pos 300 ∷ []) e (pos 0)
 
-pub owned_known : (owned_sum three_elements grid_company three_amounts ≡ pos 301) × (owned_sum three_elements energinet three_amounts ≡ pos 20)
+pub owned_known : (owned_sum three_elements grid_company three_amounts ≡ pos 301)
+    × (owned_sum three_elements energinet three_amounts ≡ pos 20)
 unfolding owned_sum owner_of sum_to
 owned_known = (refl, refl)

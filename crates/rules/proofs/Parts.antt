@@ -99,18 +99,19 @@ unfolding rows_of table_of
 rows_table rows = take-append_seam rows (replicate (places - length rows) 0)
 
 module _ (order : ℕ → ℕ → Bool) (right : ℕ → Bool) where
-  pub table-ordered : (t : Table) → table_right order right t ≡ true → chained order (rows_of t) ≡ true
+  pub table_ordered : (t : Table) → table_right order right t ≡ true → chained order (rows_of t) ≡ true
   unfolding table_right
-  table-ordered t h = (both (chained order (rows_of t)) _ h).0
+  table_ordered t h = (both (chained order (rows_of t)) _ h).0
 
-  pub table-each : (t : Table) → table_right order right t ≡ true → all_in right (rows_of t) ≡ true
+  pub table_each : (t : Table) → table_right order right t ≡ true → all_in right (rows_of t) ≡ true
   unfolding table_right
-  table-each t h = (both (all_in right (rows_of t)) _ (both (chained order (rows_of t)) _ h).1).0
+  table_each t h = (both (all_in right (rows_of t)) _ (both (chained order (rows_of t)) _ h).1).0
 
   -- rows in order, each right by itself, make a right table
-  pub table-right : (rows : List ℕ) → chained order rows ≡ true → all_in right rows ≡ true → table_right order right (table_of rows) ≡ true
+  pub table_right_lem : (rows : List ℕ) → chained order rows ≡ true → all_in right rows ≡ true
+      → table_right order right (table_of rows) ≡ true
   unfolding table_right
-  table-right rows c a = rw (rows_table rows, c, a)
+  table_right_lem rows c a = rw (rows_table rows, c, a)
       (unfold table_of in rw (drop-append_seam rows (replicate (places - length rows) 0))
       (all_same (λ x. eqb x 0) (places - length rows) 0 refl))
 
@@ -158,8 +159,8 @@ tables-right o t r = rw (r.links, r.holders, r.states, r.readings, r.blocks)
 
 pub links-each : (o : Opening) (t : Table) → links_right o t ≡ true → all_in (period_right o) (rows_of t) ≡ true
 unfolding links_right
-links-each o t h = table-each apart (period_right o) t h
+links-each o t h = table_each apart (period_right o) t h
 
 pub links-run : (o : Opening) (t : Table) → links_right o t ≡ true → Run 0 (rows_of t)
 unfolding links_right
-links-run o t h = run-rows o (rows_of t) (table-ordered apart (period_right o) t h) (table-each apart (period_right o) t h)
+links-run o t h = run-rows o (rows_of t) (table_ordered apart (period_right o) t h) (table_each apart (period_right o) t h)

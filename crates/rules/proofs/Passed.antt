@@ -6,7 +6,7 @@ use mathlib.Core.Bool.{Bool, true, false, not, ◌&&◌, ◌||◌, cond}
 use mathlib.Core.Option.{Option, none, some}
 use lib.Dec.{leb, ltb, eqb}
 use lib.ListN.{length}
-use borrow.Author.Tests.{eqb-true, eq-eqb, leb-true, ltb-true, not_true}
+use borrow.Author.Tests.{eqb-true, eq-eqb, leb-true, ltb-true, not-true}
 use native.Mathlib.Omega.{arith}
 use Rattle.rules.specs.Sizes.{end_of_days, hour_places, most_quantity}
 use Rattle.rules.specs.declared.Fields.{Fields}
@@ -77,19 +77,19 @@ module _ (f : Fields) (P : Body → Type 0) where
     pub block : f.kind ≡ 7 → P (Block f.point f.value)
     pub round : P Round
 
-  of-cond : (n k : ℕ) (a b : Body) → (n ≡ k → P a) → P b → P (cond (eqb n k) a b)
-  of-cond n k a b g h = cases (eqb n k) (λ t. rw t (g (eqb-true n k t))) (λ t. rw t h)
+  of_cond : (n k : ℕ) (a b : Body) → (n ≡ k → P a) → P b → P (cond (eqb n k) a b)
+  of_cond n k a b g h = cases (eqb n k) (λ t. rw t (g (eqb-true n k t))) (λ t. rw t h)
 
   pub by_kind_lem : ByKind → P (body_named f)
   unfolding body_named
   by_kind_lem k =
-      of-cond f.kind 1 _ _ k.link
-      (of-cond f.kind 2 _ _ k.stop
-      (of-cond f.kind 3 _ _ k.quantity
-      (of-cond f.kind 4 _ _ k.holder
-      (of-cond f.kind 5 _ _ k.state
-      (of-cond f.kind 6 _ _ k.reading
-      (of-cond f.kind 7 _ _ k.block
+      of_cond f.kind 1 _ _ k.link
+      (of_cond f.kind 2 _ _ k.stop
+      (of_cond f.kind 3 _ _ k.quantity
+      (of_cond f.kind 4 _ _ k.holder
+      (of_cond f.kind 5 _ _ k.state
+      (of_cond f.kind 6 _ _ k.reading
+      (of_cond f.kind 7 _ _ k.block
       k.round))))))
 
 module _ (suppliers : ℕ) (f : Fields) where
@@ -98,9 +98,9 @@ module _ (suppliers : ℕ) (f : Fields) where
   unfolding is_day
   day-first unused h = ltb-true _ _ (both (ltb f.day end_of_days) unused h).0
 
-  a-quantity : is_quantity f.value ≡ true → (1 ≤ f.value) × (f.value ≤ most_quantity)
+  a_quantity : is_quantity f.value ≡ true → (1 ≤ f.value) × (f.value ≤ most_quantity)
   unfolding is_quantity
-  a-quantity h = (within_low 1 most_quantity f.value h, within-high 1 most_quantity f.value h)
+  a_quantity h = (within_low 1 most_quantity f.value h, within-high 1 most_quantity f.value h)
 
   pub ranged : (m : Message) → understood suppliers f ≡ some m → Ranged suppliers m.body
   unfolding fields_right value_fits within
@@ -109,9 +109,9 @@ module _ (suppliers : ℕ) (f : Fields) where
       let right = u.fields in
       let fits = u.value in
       rw u.body (by_kind_lem f (Ranged suppliers) record {
-        link = λ k. let q = a-quantity (rw k at fits) in (day-first _ (rw k at right), q.0, q.1);
+        link = λ k. let q = a_quantity (rw k at fits) in (day-first _ (rw k at right), q.0, q.1);
         stop = λ k. day-first _ (rw k at right);
-        quantity = λ k. let q = a-quantity (rw k at fits) in (day-first _ (rw k at right), q.0, q.1);
+        quantity = λ k. let q = a_quantity (rw k at fits) in (day-first _ (rw k at right), q.0, q.1);
         holder = λ k. (day-first _ (rw k at right), leb-true _ _ (rw k at fits));
         state = λ k. let v = rw k at fits in
             (day-first _ (rw k at right), within_low new_state closed f.value v, within-high new_state closed f.value v);
@@ -145,36 +145,36 @@ module _ (suppliers : ℕ) (f : Fields) where
 -- ---- questions 7, 8 and a body's own, as facts
 
 module _ (o : Opening) (t : Tables) where
-  linked_on : (p e d : ℕ) → TablesRight o t → linked_on t p e d ≡ linked_in (rows_of t.links) p e d
+  linked_on_lem : (p e d : ℕ) → TablesRight o t → linked_on t p e d ≡ linked_in (rows_of t.links) p e d
   unfolding linked_on
-  linked_on p e d r = linked_quantity p e d (links-run o t.links r.links)
+  linked_on_lem p e d r = linked_quantity p e d (links-run o t.links r.links)
 
-  pub own-link : (p e d q : ℕ) → TablesRight o t → own_question o t (Link p e d q) ≡ true → linked_in (rows_of t.links) p e d ≡ false
+  pub own_link : (p e d q : ℕ) → TablesRight o t → own_question o t (Link p e d q) ≡ true → linked_in (rows_of t.links) p e d ≡ false
   unfolding own_question question13
-  own-link p e d q r h = sym (linked_on p e d r) ∙ not_true (linked_on t p e d) h
+  own_link p e d q r h = sym (linked_on_lem p e d r) ∙ not-true (linked_on t p e d) h
 
   pub own-quantity : (p e d q : ℕ) → TablesRight o t → own_question o t (Quantity p e d q) ≡ true → (kind_of o e ≢ 3)
       × (linked_in (rows_of t.links) p e d ≡ true)
   unfolding own_question question15 is_tariff
   own-quantity p e d q r h =
       let k = both (not (eqb (kind_of o e) 3)) (linked_on t p e d) h in
-      let n : eqb (kind_of o e) 3 ≡ false = not_true (eqb (kind_of o e) 3) k.0 in
-      (omega (arith, tests), sym (linked_on p e d r) ∙ k.1)
+      let n : eqb (kind_of o e) 3 ≡ false = not-true (eqb (kind_of o e) 3) k.0 in
+      (omega (arith, tests), sym (linked_on_lem p e d r) ∙ k.1)
 
   pub own-reading : (p d h n : ℕ) → own_question o t (Reading p d h n) ≡ true → (month_first o ≤ d) × (d < month_first o + month_days o)
   unfolding own_question question16
   own-reading p d h n e = let k = both (leb (month_first o) d) (ltb d (month_first o + month_days o)) e in
       (leb-true _ _ k.0, ltb-true _ _ k.1)
 
-  pub element-link : (p e d q : ℕ) → question8 o (Link p e d q) ≡ true → (e < o.elements) × (kind_of o e ≡ 3 → q ≡ 1)
+  pub element_link : (p e d q : ℕ) → question8 o (Link p e d q) ≡ true → (e < o.elements) × (kind_of o e ≡ 3 → q ≡ 1)
   unfolding question8 asked place_of tariff_once is_tariff
-  element-link p e d q h =
+  element_link p e d q h =
       let k = both (ltb e o.elements) (not (eqb (kind_of o e) 3) || eqb q 1) h in
       (ltb-true _ _ k.0, λ m. let z : eqb q 1 ≡ true = rw (eq-eqb (kind_of o e) 3 m) at k.1 in omega (arith, tests))
 
-  pub element-stop : (p e d : ℕ) → question8 o (Stop p e d) ≡ true → e < o.elements
+  pub element_stop : (p e d : ℕ) → question8 o (Stop p e d) ≡ true → e < o.elements
   unfolding question8 asked place_of tariff_once
-  element-stop p e d h = ltb-true _ _ (both (ltb e o.elements) true h).0
+  element_stop p e d h = ltb-true _ _ (both (ltb e o.elements) true h).0
 
   pub element-quantity : (p e d q : ℕ) → question8 o (Quantity p e d q) ≡ true → e < o.elements
   unfolding question8 asked place_of tariff_once
@@ -298,10 +298,10 @@ taken w f room b e = cases (eqb (answer w f room) 0)
 -- ---- the records of a message fit the list that is lent with it
 
 module _ (w : World) (f : Fields) (room : ℕ) where
-  written-fit : (x : Option Body) → accepted w f room ≡ x → length (written_by w x) ≤ room
+  written_fit : (x : Option Body) → accepted w f room ≡ x → length (written_by w x) ≤ room
   unfolding written_by question18
-  written-fit none e = omega arith
-  written-fit (some b) e =
+  written_fit none e = omega arith
+  written_fit (some b) e =
       let t = taken w f room b e in
       let k = behind w f room 0 (λ n i j l. omega arith) t.zero in
       let q : some k.message ≡ some t.message = sym k.is ∙ t.is in
@@ -311,6 +311,6 @@ module _ (w : World) (f : Fields) (room : ℕ) where
       let r = asked_passed (question18 w k.message.body room) 18 _ 0 (λ n. omega arith) p.1 in
       subst (λ (x : Body). length (written w x) ≤ room) z (leb-true _ room r.0)
 
-  pub records-fit : length (records_of w f room) ≤ room
+  pub records_fit : length (records_of w f room) ≤ room
   unfolding records_of
-  records-fit = written-fit (accepted w f room) refl
+  records_fit = written_fit (accepted w f room) refl

@@ -64,10 +64,10 @@ module _ {A : Type 0} where
   all_same ok zero a h = refl
   all_same ok (suc n) a h = rw (h, all_same ok n a h)
 
-  pub get_d-same : (n i : ℕ) (a : A) → get_or (replicate n a) i a ≡ a
-  get_d-same zero i a = refl
-  get_d-same (suc n) zero a = refl
-  get_d-same (suc n) (suc i) a = get_d-same n i a
+  pub get_d_same : (n i : ℕ) (a : A) → get_or (replicate n a) i a ≡ a
+  get_d_same zero i a = refl
+  get_d_same (suc n) zero a = refl
+  get_d_same (suc n) (suc i) a = get_d_same n i a
 
   -- an entry, or what stands for one past the end
   pub all_get_d : (ok : A → Bool) (l : List A) (i : ℕ) (a : A) → ok a ≡ true → all_in ok l ≡ true → ok (get_or l i a) ≡ true
@@ -83,13 +83,13 @@ module _ {A : Type 0} where
   length-list_to f zero = refl
   length-list_to f (suc n) = length-append (list_to f n) (f n ∷ []) ∙ rw (length-list_to f n) (omega arith)
 
-  pub get_d-list_to : (f : ℕ → A) (n i : ℕ) (d : A) → i < n → get_or (list_to f n) i d ≡ f i
+  pub get_d_list_to : (f : ℕ → A) (n i : ℕ) (d : A) → i < n → get_or (list_to f n) i d ≡ f i
   unfolding list_to
-  get_d-list_to f zero i d h = absurd (omega arith)
-  get_d-list_to f (suc n) i d h = cases (eqb i n)
+  get_d_list_to f zero i d h = absurd (omega arith)
+  get_d_list_to f (suc n) i d h = cases (eqb i n)
       (λ e. rw (eqb-true i n e) (get_or_at (list_to f n) (f n) [] d n (length-list_to f n)))
       (λ e. let k : i < n = omega (arith, tests) in
-      get_or-append (list_to f n) (f n ∷ []) d i (rw (length-list_to f n) k) ∙ get_d-list_to f n i d k)
+      get_or-append (list_to f n) (f n ∷ []) d i (rw (length-list_to f n) k) ∙ get_d_list_to f n i d k)
 
 -- ---- the latest of dated values
 

@@ -22,7 +22,7 @@ use Rattle.rules.specs.Effects.{records}
 use Rattle.rules.specs.Queries.{LineResult, line_named}
 use Rattle.rules.specs.Claim.{is_of, moves, total, balance_of, last_record}
 use Rattle.rules.proofs.Tests.{cases, both, eqb_ne}
-use Rattle.rules.proofs.Stored.{amount_back, supplier-of, element_of_lem, line-below, in-book, line-only}
+use Rattle.rules.proofs.Stored.{amount_back, supplier_of_lem, element_of_lem, line-below, in_book, line-only}
 
 nat_abs-zero : (a : ℤ) → nat_abs a ≡ 0 → a ≡ pos 0
 nat_abs-zero (pos n) e = ap pos e
@@ -84,7 +84,7 @@ total-records w m s e b =
     ∙ sum_one _ ((s - 1) * w.opening.elements + e) (line_count w.opening) (line-below w.opening s e b)
     (λ i k n. other w m s e (supplier_of w.opening i) (element_of w.opening i)
     (not_both _ _ s e (λ x y. n (line-only w.opening s e i x y))))
-    ∙ rw (supplier-of w.opening s e b, element_of_lem w.opening s e b) (own w m s e)
+    ∙ rw (supplier_of_lem w.opening s e b, element_of_lem w.opening s e b) (own w m s e)
 
 -- where the records so far add up to what was sent, those of one round more add up to the lines
 pub total-round : (w : World) (xs : List Record) (m : Measure) (s e : ℕ) → InBook w.opening s e
@@ -134,7 +134,7 @@ one_record w k h r m =
     let e = element_of w.opening k in
     cases (unmoved w s e)
     (λ t. absurd (Memᴰ.not-nil (rw t at m)))
-    (λ t. subst (LineRecord w) (sym (Memᴰ.eq_of_singleton (rw t at m))) (line_record_lem w s e (in-book w.opening k h)))
+    (λ t. subst (LineRecord w) (sym (Memᴰ.eq_of_singleton (rw t at m))) (line_record_lem w s e (in_book w.opening k h)))
 
 each_to : (w : World) (k : ℕ) → k ≤ line_count w.opening → (r : Record) → Memᴰ r (records_to w k) → LineRecord w r
 unfolding records_to
@@ -170,10 +170,10 @@ module _ (s e : ℕ) where
       (λ q. rw q)
       (λ q. rw (q, eq-eqb s s refl, eq-eqb e e refl))
 
-  last-other : (w : World) (x y : ℕ) (found : Option Record) → eqb x s && eqb y e ≡ false
+  last_other : (w : World) (x y : ℕ) (found : Option Record) → eqb x s && eqb y e ≡ false
       → last_record s e found (record_for w x y) ≡ found
   unfolding record_for last_record record_of
-  last-other w x y found n = cases (unmoved w x y) (λ q. rw q) (λ q. rw (q, n))
+  last_other w x y found n = cases (unmoved w x y) (λ q. rw q) (λ q. rw (q, n))
 
   module _ (w : World) (b : InBook w.opening s e) (found : Option Record) where
     abbrev own-place : ℕ
@@ -184,7 +184,7 @@ module _ (s e : ℕ) where
     unfolding records_to
     last_more k n =
         last-append found (records_to w k) _
-        ∙ last-other w (supplier_of w.opening k) (element_of w.opening k) (last_record s e found (records_to w k))
+        ∙ last_other w (supplier_of w.opening k) (element_of w.opening k) (last_record s e found (records_to w k))
         (not_both _ _ s e (λ x y. n (sym (line-only w.opening s e k x y))))
 
     last-before : (k : ℕ) → k ≤ own-place → last_record s e found (records_to w k) ≡ found
@@ -195,7 +195,7 @@ module _ (s e : ℕ) where
     unfolding records_to
     last-here =
         last-append found (records_to w own-place) _
-        ∙ rw (last-before own-place (omega arith), supplier-of w.opening s e b, element_of_lem w.opening s e b) (last-own w found)
+        ∙ rw (last-before own-place (omega arith), supplier_of_lem w.opening s e b, element_of_lem w.opening s e b) (last-own w found)
 
     last-behind : (k : ℕ) → own-place < k → last_record s e found (records_to w k) ≡ last_own w found
     last-behind zero h = absurd (omega arith)

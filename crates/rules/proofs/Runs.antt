@@ -5,11 +5,12 @@ use mathlib.Core.Bool.{true, false, not, ◌&&◌, ◌||◌, cond, false≢true,
 use mathlib.Core.List.{List, [], ◌∷◌}
 use lib.Dec.{leb, ltb, eqb}
 use native.Mathlib.Omega.{arith}
-use Rattle.rules.specs.Rows.{period_point, period_element, period_first, period_end, period_quantity, of_pair, covers, quantity_on, starts_on}
+use Rattle.rules.specs.Rows.{period_point, period_element, period_first, period_end, period_quantity, of_pair}
+use Rattle.rules.specs.Rows.{covers, quantity_on, starts_on}
 use Rattle.rules.proofs.Tests.{tests, cases, both}
 use Rattle.rules.specs.Order.{from, upto, Run, done, next, linked_in}
 use Rattle.rules.proofs.Words.{spot, pair_true, pair_is, covers-is}
-use Rattle.rules.proofs.Clauses.{quantity-nil, quantity-cons, starts-nil, starts-cons}
+use Rattle.rules.proofs.Clauses.{quantity-nil, quantity-cons, starts_nil, starts_cons}
 use Rattle.rules.specs.Basics.{keep}
 
 pub weaken : {j k : ℕ} {ws : List ℕ} → j ≤ k → Run k ws → Run j ws
@@ -41,7 +42,8 @@ linked_quantity p e d (next {w = w} a b c r) = simp (quantity-cons, linked_cons)
     (λ h. let z : eqb (period_quantity w) 0 ≡ false = omega (arith, tests) in simp (h, z))
     (λ h. simp (h, linked_quantity p e d r)))
 
-pub covered : (p e d w : ℕ) → covers p e d w ≡ true → (period_point w ≡ p) × (period_element w ≡ e) × (period_first w ≤ d) × (d < period_end w)
+pub covered : (p e d w : ℕ) → covers p e d w ≡ true
+    → (period_point w ≡ p) × (period_element w ≡ e) × (period_first w ≤ d) × (d < period_end w)
 covered p e d w h =
     let k = both (of_pair p e w) (leb (period_first w) d && ltb d (period_end w)) (sym (covers-is p e d w) ∙ h) in
     let l = both (leb (period_first w) d) (ltb d (period_end w)) k.1 in
@@ -58,16 +60,17 @@ linked_from p e d (next {w = w} a b c r) h =
 
 -- nor does one start
 pub starts_from : {k : ℕ} {ws : List ℕ} (p e d : ℕ) → Run k ws → starts_on ws p e d ≡ true → k ≤ spot p e d
-starts_from p e d done h = absurd (false≢true (sym (starts-nil p e d) ∙ h))
+starts_from p e d done h = absurd (false≢true (sym (starts_nil p e d) ∙ h))
 starts_from p e d (next {w = w} a b c r) h =
     cases (of_pair p e w && eqb (period_first w) d)
     (λ t. let k = both (of_pair p e w) (eqb (period_first w) d) t in let m = pair_true p e w k.0 in omega (arith, tests))
-    (λ t. let k = starts_from p e d r (simp (starts-cons, t) at h) in omega arith)
+    (λ t. let k = starts_from p e d r (simp (starts_cons, t) at h) in omega arith)
 
 -- where the rows begin, a period starts or the day is not linked
-pub starts_or_free : {k : ℕ} {ws : List ℕ} (p e d : ℕ) → Run k ws → spot p e d ≤ k → (not (starts_on ws p e d) && linked_in ws p e d) ≡ false
-starts_or_free p e d done h = simp (starts-nil, linked_nil)
-starts_or_free p e d (next {w = w} a b c r) h = simp (starts-cons, linked_cons, covers-is)
+pub starts_or_free : {k : ℕ} {ws : List ℕ} (p e d : ℕ) → Run k ws → spot p e d ≤ k
+    → (not (starts_on ws p e d) && linked_in ws p e d) ≡ false
+starts_or_free p e d done h = simp (starts_nil, linked_nil)
+starts_or_free p e d (next {w = w} a b c r) h = simp (starts_cons, linked_cons, covers-is)
     (cases (of_pair p e w)
     (λ o. let m = pair_true p e w o in
     cases (eqb (period_first w) d)
@@ -92,11 +95,11 @@ inside p e d x (next {w = w} {ws = ws} a b c r) l h m = cases (covers p e d w)
     let z' : eqb (period_first w) x ≡ false = omega (arith, tests) in
     cases (starts_on ws p e x)
     (λ s. let f = starts_from p e x r s in absurd (omega arith))
-    (λ s. simp (starts-cons, linked_cons, covers-is, o, y, z, z', s)))
+    (λ s. simp (starts_cons, linked_cons, covers-is, o, y, z, z', s)))
     (λ t. let m' : x < end_in ws p e d = simp (end-cons, t) at m in
     let l' : linked_in ws p e d ≡ true = simp (linked_cons, t) at l in
     let ih = inside p e d x r l' h m' in
-    simp (starts-cons, linked_cons, covers-is) (cases (of_pair p e w)
+    simp (starts_cons, linked_cons, covers-is) (cases (of_pair p e w)
     (λ o. let y = ends_by p e d w r l' o in
     let z : ltb x (period_end w) ≡ false = omega (arith, tests) in
     let z' : eqb (period_first w) x ≡ false = omega (arith, tests) in
@@ -113,12 +116,12 @@ at-end p e d (next {w = w} {ws = ws} a b c r) l = cases (covers p e d w)
     let z : ltb (period_end w) (period_end w) ≡ false = omega (arith, tests) in
     let z' : eqb (period_first w) (period_end w) ≡ false = omega (arith, tests) in
     let f = starts_or_free p e (period_end w) r (omega arith) in
-    simp (end-cons, t) (omega arith, simp (starts-cons, linked_cons, covers-is, o, z, z', and-false) f))
+    simp (end-cons, t) (omega arith, simp (starts_cons, linked_cons, covers-is, o, z, z', and-false) f))
     (λ t. let l' : linked_in ws p e d ≡ true = simp (linked_cons, t) at l in
     let ih = at-end p e d r l' in
     simp (end-cons, t) (
       ih.0,
-      simp (starts-cons, linked_cons, covers-is) (cases (of_pair p e w)
+      simp (starts_cons, linked_cons, covers-is) (cases (of_pair p e w)
           (λ o. let y = ends_by p e d w r l' o in
           let n = ih.0 in
           let z : ltb (end_in ws p e d) (period_end w) ≡ false = omega (arith, tests) in

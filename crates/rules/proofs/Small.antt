@@ -50,24 +50,24 @@ module _ (op : Opening) (e : ℕ) (h : element_right op e ≡ true) where
       let h6 = both (not (marked op hourly e) || eqb (kind_of op e) 3) _ h5.1 in
       (both (all_to (λ i. leb (price_size op e i) (price_limit (kind_of op e))) price_places) _ h6.1).0
 
-  size-at : (i : ℕ) → i < price_places → nat_abs (get_or op.prices (e * price_places + i) (pos 0)) ≤ price_limit (kind_of op e)
+  size_at : (i : ℕ) → i < price_places → nat_abs (get_or op.prices (e * price_places + i) (pos 0)) ≤ price_limit (kind_of op e)
   unfolding price_size
-  size-at i l = leb-true _ _ (all-at _ price_places sizes i l)
+  size_at i l = leb-true _ _ (all-at _ price_places sizes i l)
 
   -- a price that is used stands at one of the 24 places
   price-at : (d i : ℕ) → i < price_places → nat_abs (price_of op e d i) ≤ price_limit (kind_of op e)
   unfolding price_of
   price-at d i l = cases (marked op hourly e)
-      (λ c. rw c (size-at i l))
-      (λ c. rw c (size-at 0 (omega arith)))
+      (λ c. rw c (size_at i l))
+      (λ c. rw c (size_at 0 (omega arith)))
 
   limit_high : price_limit (kind_of op e) ≤ most_price
   unfolding price_limit
   limit_high = cases (eqb (kind_of op e) 3) (λ c. rw c (omega arith)) (λ c. rw c (omega arith))
 
-  limit-tariff : kind_of op e ≢ 1 → kind_of op e ≢ 2 → price_limit (kind_of op e) ≤ most_tariff_price
+  limit_tariff : kind_of op e ≢ 1 → kind_of op e ≢ 2 → price_limit (kind_of op e) ≤ most_tariff_price
   unfolding price_limit element_right
-  limit-tariff a b =
+  limit_tariff a b =
       let k = (both (within 1 3 (kind_of op e)) _ h).0 in
       let low = within_low 1 3 (kind_of op e) k in
       let high = within-high 1 3 (kind_of op e) k in
@@ -80,7 +80,7 @@ module _ (op : Opening) (e : ℕ) (h : element_right op e ≡ true) where
     quantity = λ p d. quantity-high op (rows_of t.links) (links-each op t.links r.links) p e d;
     energy = λ p d i. leb-true _ _ (all_get_d (λ x. leb x most_energy) t.readings (reading_at op p d i) 0 refl r.readings);
     price = λ d. le_trans (price-at d 0 (omega arith)) limit_high;
-    per_kwh = λ a b d i k. le_trans (price-at d i k) (limit-tariff a b);
+    per_kwh = λ a b d i k. le_trans (price-at d i k) (limit_tariff a b);
     hours = λ d. omega arith;
     some-days = let k = days-range op.year op.month in omega arith;
     days = (days-range op.year op.month).1;

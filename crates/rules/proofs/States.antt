@@ -11,7 +11,7 @@ use Rattle.rules.specs.Lines.{Measure, Facts, line}
 use Rattle.rules.specs.World.{Opening, terms_by, terms_of, not_existing, new_state, connected, disconnected, closed}
 use Rattle.rules.specs.World.{connected_or_disconnected, every_state, counting_states}
 use Rattle.rules.proofs.Tests.{cases}
-use Rattle.rules.proofs.LineLaws.{line-cong}
+use Rattle.rules.proofs.LineLaws.{line_cong}
 
 pub early : (year : ℕ) → year ≤ last_year_of_every_state → counting_states year ≡ every_state
 unfolding counting_states
@@ -47,7 +47,7 @@ pub existing_line : (o : Opening) → o.year ≤ last_year_of_every_state → (f
     → ((p d : ℕ) → every_state (a p d) ≡ every_state (b p d))
     → (m : Measure) (s e : ℕ) → line (terms_of o) (restated f a) m s e ≡ line (terms_of o) (restated f b) m s e
 existing_line o h f a b x m s e =
-    line-cong (terms_of o) (restated f a) (restated f b) m s e (λ p k.
+    line_cong (terms_of o) (restated f a) (restated f b) m s e (λ p k.
     record {
       holder = λ i l. refl;
       counts = λ i l. unfold terms_by in rw (early o.year h) (x p ((terms_of o).first + i));

@@ -16,49 +16,49 @@ use Rattle.rules.specs.Order.{from}
 -- ---- periods
 
 module _ (w : ℕ) where
-  pub element-lt : period_element w < element_room
+  pub element_lt : period_element w < element_room
   unfolding period_element
-  element-lt = omega arith
+  element_lt = omega arith
 
-  pub first-lt : period_first w < day_room
+  pub first_lt : period_first w < day_room
   unfolding period_first
-  first-lt = omega arith
+  first_lt = omega arith
 
   pub end_lt : period_end w < day_room
   unfolding period_end
   end_lt = omega arith
 
-  pub quantity-lt : period_quantity w < quantity_room
+  pub quantity_lt : period_quantity w < quantity_room
   unfolding period_quantity
-  quantity-lt = omega arith
+  quantity_lt = omega arith
 
 module _ (p e a b q : ℕ) (he : e < element_room) (ha : a < day_room) (hb : b < day_room) (hq : q < quantity_room) where
-  pub point-pack : period_point (pack_period p e a b q) ≡ p
+  pub point_pack : period_point (pack_period p e a b q) ≡ p
   unfolding period_point pack_period
-  point-pack = omega arith
+  point_pack = omega arith
 
-  pub element-pack : period_element (pack_period p e a b q) ≡ e
+  pub element_pack : period_element (pack_period p e a b q) ≡ e
   unfolding period_element pack_period
-  element-pack = omega arith
+  element_pack = omega arith
 
-  pub first-pack : period_first (pack_period p e a b q) ≡ a
+  pub first_pack : period_first (pack_period p e a b q) ≡ a
   unfolding period_first pack_period
-  first-pack = omega arith
+  first_pack = omega arith
 
-  pub end-pack : period_end (pack_period p e a b q) ≡ b
+  pub end_pack : period_end (pack_period p e a b q) ≡ b
   unfolding period_end pack_period
-  end-pack = omega arith
+  end_pack = omega arith
 
-  pub quantity-pack : period_quantity (pack_period p e a b q) ≡ q
+  pub quantity_pack : period_quantity (pack_period p e a b q) ≡ q
   unfolding period_quantity pack_period
-  quantity-pack = omega arith
+  quantity_pack = omega arith
 
-  pub pair-pack : (p' e' : ℕ) → of_pair p' e' (pack_period p e a b q) ≡ (eqb p p' && eqb e e')
+  pub pair_pack : (p' e' : ℕ) → of_pair p' e' (pack_period p e a b q) ≡ (eqb p p' && eqb e e')
   unfolding of_pair
-  pair-pack p' e' = rw (point-pack, element-pack)
+  pair_pack p' e' = rw (point_pack, element_pack)
 
-  pub pair-pack-same : of_pair p e (pack_period p e a b q) ≡ true
-  pair-pack-same = rw (pair-pack p e, eq-eqb p p refl, eq-eqb e e refl)
+  pub pair_pack_same : of_pair p e (pack_period p e a b q) ≡ true
+  pair_pack_same = rw (pair_pack p e, eq-eqb p p refl, eq-eqb e e refl)
 
 abbrev pub spot : (point element day : ℕ) → ℕ
 spot p e d = (p * element_room + e) * day_room + d
@@ -81,9 +81,10 @@ pub pair_is : (p e w : ℕ) → period_point w ≡ p → period_element w ≡ e 
 unfolding of_pair
 pair_is p e w h k = rw (eq-eqb _ _ h, eq-eqb _ _ k)
 
-pub pair_false : (p e w : ℕ) → e < element_room → of_pair p e w ≡ false → period_point w * element_room + period_element w ≢ p * element_room + e
+pub pair_false : (p e w : ℕ) → e < element_room → of_pair p e w ≡ false
+    → period_point w * element_room + period_element w ≢ p * element_room + e
 pair_false p e w he h k =
-    let l = element-lt w in
+    let l = element_lt w in
     false≢true (sym h ∙ pair_is p e w (omega arith) (omega arith))
 
 -- a row of one pair is of no other
@@ -100,18 +101,18 @@ covers-is p e d w = refl
 -- ---- dated values
 
 module _ (size p d v : ℕ) (hd : d < day_room) (hv : v < size) where
-  pub key-pack : pack_value size p d v / size ≡ p * day_room + d
+  pub key_pack : pack_value size p d v / size ≡ p * day_room + d
   unfolding pack_value
-  key-pack = rw (mul-add-div_right {m = size} (omega arith) (p * day_room + d) v, div-eq_of_lt hv) (omega arith)
+  key_pack = rw (mul-add-div_right {m = size} (omega arith) (p * day_room + d) v, div-eq_of_lt hv) (omega arith)
 
   pub point-value : value_point size (pack_value size p d v) ≡ p
   unfolding value_point
-  point-value = let k = key-pack in omega arith
+  point-value = let k = key_pack in omega arith
 
   pub first-value : value_first size (pack_value size p d v) ≡ d
   unfolding value_first
-  first-value = let k = key-pack in omega arith
+  first-value = let k = key_pack in omega arith
 
-  pub value-pack : value_of size (pack_value size p d v) ≡ v
+  pub value_pack : value_of size (pack_value size p d v) ≡ v
   unfolding value_of pack_value
-  value-pack = mul-add-mod_self_right (p * day_room + d) size v ∙ mod-eq_of_lt hv
+  value_pack = mul-add-mod_self_right (p * day_room + d) size v ∙ mod-eq_of_lt hv

@@ -2,8 +2,9 @@
 -- and states by first day, readings by day and hour, and per element and day a quantity (0 if unlinked) and a mark where a period starts;
 -- none at first."
 -- Its state and what each message does to it stand here alone: no rows, no lines, nothing that was sent. It shares with the book which
--- message the fields are (`understood`), the kinds and prices of elements and the month (`kind_of`, `termsOf`), that a recorded value holds
--- up to the next (`latest`), which states count (`countingStates`), and the charge of a day with its sums (`charge`, `line` in Lines.antt).
+-- message the fields are (`understood`), the kinds and prices of elements and the month (`kind_of`, `terms_of`), that a recorded value
+-- holds up to the next (`latest`), which states count (`counting_states`), and the charge of a day with its sums (`charge`, `line` in
+-- Lines.antt).
 use Rattle.std.specs.Prelude.{ℕ, ◌+◌, ◌-◌, Bool, false, not, ◌&&◌, ◌||◌, cond, leb, ltb, eqb}
 use Rattle.std.proofs.Math.Option.{Option, none, some}
 use Rattle.rules.specs.declared.Fields.{Fields}

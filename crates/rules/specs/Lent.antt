@@ -1,8 +1,5 @@
--- What is lent with a book, as one value, and the worlds that contracts speak of. A `requires` sees a table as a reference, an `ensures` as
--- the reference at entry and at exit.
+-- What is lent with a book, as one value, and the worlds that contracts speak of.
 use Rattle.std.specs.Prelude.{ℕ, List, [], ℤ}
-use Rattle.std.specs.Borrow.{Bor}
-use denote.Triple.Both.{Both}
 use Rattle.rules.specs.declared.Book.{Book}
 use Rattle.rules.specs.World.{Opening, Tables, World}
 
@@ -66,44 +63,21 @@ world_in b o =
       dates = record { first = b.first; days = b.days };
     }
 
--- a table as a `requires` sees it, and as an `ensures` sees it
-abbrev pub Ref : Type 0 → Type 0
-Ref X = Bor (List X)
+-- ---- what a function is lent that reads them all, as it is at one moment
 
-abbrev pub Lent : Type 0 → Type 0
-Lent X = Both (Ref X) (Ref X)
-
--- what a lent table, or a lent number, was at entry, and what is left at exit
-abbrev pub was : {X : Type 0} → Both (Bor X) (Bor X) → X
-was t = t.entry.now
-
-abbrev pub left : {X : Type 0} → Both (Bor X) (Bor X) → X
-left t = t.exit.now
-
--- ---- what a function is lent that reads them all: in a `requires`, and in an `ensures` at entry and at exit
-
-abbrev pub given : (element_data : Ref ℕ) → (prices : Ref ℤ) → (links holders states readings blocks : Ref ℕ) → (lines sent : Ref ℤ) → Lists
+abbrev pub given : (element_data : List ℕ) → (prices : List ℤ) → (links holders states readings blocks : List ℕ) → (lines sent : List ℤ)
+    → Lists
 given element_data prices links holders states readings blocks lines sent =
     record {
-      element_data = element_data.now;
-      prices = prices.now;
-      links = links.now;
-      holders = holders.now;
-      states = states.now;
-      readings = readings.now;
-      blocks = blocks.now;
-      lines = lines.now;
-      sent = sent.now;
-    }
-
-abbrev pub lent : (element_data : Lent ℕ) → (prices : Lent ℤ) → (links holders states readings blocks : Lent ℕ) → (lines sent : Lent ℤ)
-    → Both Lists Lists
-lent element_data prices links holders states readings blocks lines sent =
-    record {
-      entry = given element_data.entry prices.entry links.entry holders.entry states.entry readings.entry
-          blocks.entry lines.entry sent.entry;
-      exit = given element_data.exit prices.exit links.exit holders.exit states.exit readings.exit
-          blocks.exit lines.exit sent.exit;
+      element_data = element_data;
+      prices = prices;
+      links = links;
+      holders = holders;
+      states = states;
+      readings = readings;
+      blocks = blocks;
+      lines = lines;
+      sent = sent;
     }
 
 -- ---- what a function is lent that reads some tables: those, and whatever else there is

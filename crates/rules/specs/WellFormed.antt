@@ -1,5 +1,6 @@
 -- Questions 2 to 5: is what was lent a book that the rules speak of.
-use Rattle.std.specs.Prelude.{ℕ, suc, ◌+◌, ◌-◌, ◌*◌, ◌/◌, Bool, not, ◌&&◌, ◌||◌, cond, List, ℤ, pos, nat_abs, length, get_or, drop, leb, ltb, eqb}
+use Rattle.std.specs.Prelude.{ℕ, suc, ◌+◌, ◌-◌, ◌*◌, ◌/◌, Bool, not, ◌&&◌, ◌||◌, cond, List, ℤ, pos, nat_abs, length}
+use Rattle.std.specs.Prelude.{get_or, drop, leb, ltb, eqb}
 use Rattle.std.specs.Int.Signed.{le_z}
 use Rattle.rules.specs.Basics.{within, all_to, all_in, chained}
 use Rattle.rules.specs.Sizes.{first_year, last_year, last_month, end_of_days, most_points, most_suppliers, most_elements, last_round}

@@ -1,5 +1,6 @@
 -- A book with all that it was lent, as one value, and what it says of the month.
-use Rattle.std.specs.Prelude.{ℕ, ◌+◌, ◌-◌, ◌*◌, ◌/◌, ◌%◌, ◌≤◌, ◌<◌, Bool, not, ◌||◌, cond, List, ◌++◌, ℤ, pos, negsuc, ◌+ℤ◌, ◌*ℤ◌, length, get_or, take, replicate, eqb, leb}
+use Rattle.std.specs.Prelude.{ℕ, ◌+◌, ◌-◌, ◌*◌, ◌/◌, ◌%◌, ◌≤◌, ◌<◌, Bool, not, ◌||◌, cond, List, ◌++◌, ℤ, pos}
+use Rattle.std.specs.Prelude.{negsuc, ◌+ℤ◌, ◌*ℤ◌, length, get_or, take, replicate, eqb, leb}
 use Rattle.calendar.specs.Gregorian.{first_day, days_of_month}
 use Rattle.rules.specs.declared.Book.{Book}
 use Rattle.rules.specs.Basics.{within, latest}

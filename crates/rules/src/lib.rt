@@ -1,5 +1,6 @@
 // The types that the entry points speak, in document 01's words: the book, a message as it comes, a message understood, a record,
 // and the answers. Every definition of document 01 stands in specs/; this crate has no functions.
+#![tactic(auto)]
 
 // ---- limits and sizes
 
@@ -136,7 +137,7 @@ pub const HOLDER_SIZE: u64 = 32;
 pub const STATE_SIZE: u64 = 8;
 
 // The book's own numbers; everything else is lent.
-#[derive(Drop)]
+#[derive(Clone, Copy)]
 pub struct Book {
     pub year: u64,
     pub month: u64,
@@ -155,7 +156,7 @@ pub struct Book {
 }
 
 // A message as it came.
-#[derive(Drop)]
+#[derive(Clone, Copy)]
 pub struct Fields {
     pub kind: u64,
     pub role: u64,
@@ -169,7 +170,7 @@ pub struct Fields {
 }
 
 // Roles 1, 2 and 3; a supplier has its number.
-#[derive(Drop)]
+#[derive(Clone, Copy)]
 pub enum Sender {
     GridCompany,
     Energinet,
@@ -177,7 +178,7 @@ pub enum Sender {
 }
 
 // The eight bodies, kinds 1 to 8, each with its own data.
-#[derive(Drop)]
+#[derive(Clone, Copy)]
 pub enum Body {
     Link {
         point: u64,
@@ -220,7 +221,7 @@ pub enum Body {
 }
 
 // What kinds 1 to 3 are about: a point, an element and the given day.
-#[derive(Drop)]
+#[derive(Clone, Copy)]
 pub struct Place {
     pub point: u64,
     pub element: u64,
@@ -228,7 +229,7 @@ pub struct Place {
 }
 
 // A message whose fields are in range.
-#[derive(Drop)]
+#[derive(Clone, Copy)]
 pub struct Message {
     pub sender: Sender,
     pub received: u64,
@@ -236,7 +237,7 @@ pub struct Message {
 }
 
 // A line as it is computed with: the quantity, and the amount in its one form.
-#[derive(Drop)]
+#[derive(Clone, Copy)]
 pub struct Line {
     pub quantity: i64,
     pub kroner: i64,
@@ -244,7 +245,7 @@ pub struct Line {
 }
 
 // One record of a round: its kind, whose line it is, how far that has moved since the last round, and the line after this one.
-#[derive(Drop)]
+#[derive(Clone, Copy)]
 pub struct Record {
     pub kind: u64,
     pub supplier: u64,
@@ -254,7 +255,7 @@ pub struct Record {
 }
 
 // Accepted, or the question that says no: 1 to 18 are document 01's, 24 is request 11's.
-#[derive(Drop)]
+#[derive(Clone, Copy)]
 pub enum Answer {
     Accepted,
     BrokenField,
@@ -279,7 +280,7 @@ pub enum Answer {
 }
 
 // What the line query answers.
-#[derive(Drop)]
+#[derive(Clone, Copy)]
 pub enum LineAnswer {
     Line {
         quantity: i64,
@@ -290,7 +291,7 @@ pub enum LineAnswer {
 }
 
 // What the query for the earliest day without a holder answers.
-#[derive(Drop)]
+#[derive(Clone, Copy)]
 pub enum DayAnswer {
     Day(u64),
     NoDay,

@@ -1,14 +1,17 @@
 // Document 01's month, March 2024, as a stored list of messages that `history::open_and_run` opens and runs. It prints a line for each
 // record that the rounds have written, in their order, and then a line for each message that was refused.
+#![tactic(auto)]
+
 ghost use Rattle.std.specs.Prelude.{ℕ, ◌<◌};
 ghost use Rattle.ledger.specs.RecordNumbers.{RecordPlaces};
 
 use file::output::{LONGEST_LINE, put_record, put_refused};
 use history::open_and_run;
 use ledger::records::record_at;
-use libc::STDOUT_FILENO;
 use rules::{HOUR_PLACES, LINE_SIZE, PLACES, PRICE_PLACES, RECORD_SIZE};
 use settlement_book::numbers::FIELDS_SIZE;
+use std::io;
+use std::io::{Write, writer};
 
 // The messages as document 01 lists them: kind, role, sender, received, point, element, day, hour, value.
 const MESSAGES: usize = 11;
@@ -41,34 +44,36 @@ fn listed() -> [u64; MESSAGES * FIELDS_SIZE] {
 }
 
 // The first `count` records of the list.
-fn show_records(records: &[i64], count: usize)
+fn show_records<W: Write>(output: &mut W, records: &[i64], count: usize) -> io::Result<()>
     requires { (i : ℕ) → i < count → RecordPlaces records.now i }
 {
     let mut i = 0;
     while i < count {
         let mut line = [0u8; LONGEST_LINE];
         let n = put_record(&mut line, 0, record_at(records, i));
-        io::write_all(STDOUT_FILENO, &line[..n]);
+        output.write_all(&line[..n])?;
         i += 1;
     }
+    Ok(())
 }
 
-fn show_refused(message: u64, question: u64) {
+fn show_refused<W: Write>(output: &mut W, message: u64, question: u64) -> io::Result<()> {
     let mut line = [0u8; LONGEST_LINE];
     let n = put_refused(&mut line, 0, message, question);
-    io::write_all(STDOUT_FILENO, &line[..n]);
+    output.write_all(&line[..n])
 }
 
 // The messages that were refused, by their numbers from 1.
-fn show_refusals(answers: &[u64]) {
+fn show_refusals<W: Write>(output: &mut W, answers: &[u64]) -> io::Result<()> {
     let mut i = 0;
     while i < answers.len() {
         let question = answers[i];
         i += 1;
         if question != 0 {
-            show_refused(i as u64, question);
+            show_refused(output, i as u64, question)?;
         }
     }
+    Ok(())
 }
 
 // Of element 0, a subscription, and of element 1, a day tariff.
@@ -80,7 +85,7 @@ fn element_prices() -> [i64; 2 * PRICE_PLACES] {
 }
 
 // March 2024 with one point, two suppliers and two elements, both the grid company's.
-fn main() {
+fn main(rt: HostRuntime) -> io::Result<()> {
     let element_data = [1u8, 1, 0, 3, 1, 0];
     let prices = element_prices();
     let mut links = [0u64; PLACES];
@@ -113,10 +118,11 @@ fn main() {
         &mut answers,
     );
     let opening = settled.answer;
+    let mut output = writer(&rt);
     if opening == 0 {
-        show_records(&records, settled.records);
-        show_refusals(&answers);
+        show_records(&mut output, &records, settled.records)?;
+        show_refusals(&mut output, &answers)
     } else {
-        show_refused(0, opening);
+        show_refused(&mut output, 0, opening)
     }
 }

@@ -33,7 +33,7 @@ use Rattle.runner.specs.Texts.{longest_text, advanced_to, waits_at, reply_text}
 use Rattle.runner.specs.Holding.{HoldsValues, Represents, Advances}
 use Rattle.runner.proofs.StageLaws.{never}
 use Rattle.runner.proofs.PartLaws.{within, AsLong, put_back, parts_back, ends_stay, points_stay}
-use Rattle.runner.proofs.TextLaws.{reply-text}
+use Rattle.runner.proofs.TextLaws.{reply_text_lem}
 
 -- the run ends with question 1
 pub arm_broken : (at : ℕ) (b : Book) (r : Advanced) (t : Lists) (out after : List ℕ) (from written number : ℕ)
@@ -97,7 +97,7 @@ module _ (b : Book) (t : Lists) (e : Ends) (q : e ≡ ends_of b) (s : Sized t) (
       ∙ ap (world_in r.book) (parts_back e t x (within b g e q t s) l)
       ∙ h ∙ ap (λ (y : Ends). step (world_in b (cut_to y t)) f room) q
 
-  pub arm-message : (at next number : ℕ) (bytes : List ℕ) (lent records : List ℤ) → length lent ≡ settle_records * record_size
+  pub arm_message : (at next number : ℕ) (bytes : List ℕ) (lent records : List ℤ) → length lent ≡ settle_records * record_size
       → Replied (world_in b (cut_to e t)) (world_in r.book x) f r lent records
       → Whole (world_in r.book x) → b.points ≤ settle_points
       → (out after : List ℕ) (from : ℕ) (a : Advanced) → Written longest_text out after from a.written (reply_text r number records)
@@ -105,7 +105,7 @@ module _ (b : Book) (t : Lists) (e : Ends) (q : e ≡ ends_of b) (s : Sized t) (
       → Advances (move_on at (messages (fronts_world b t) number) (Message f) bytes) a.progress (put_back e t x) out after
       a.next from a.written
   unfolding move_on field_size
-  arm-message at next number bytes lent records long p c k out after from a v n z =
+  arm_message at next number bytes lent records long p c k out after from a v n z =
       let room : room_in lent ≡ settle_records = omega arith in
       let w : fronts_world r.book (put_back e t x) ≡ step (fronts_world b t) f settle_records =
       message-world settle_records (p.world ∙ ap (step (world_in b (cut_to e t)) f) room) in
@@ -113,7 +113,7 @@ module _ (b : Book) (t : Lists) (e : Ends) (q : e ≡ ends_of b) (s : Sized t) (
       subst (λ (y : World). Whole y) (p.world ∙ ap (step (world_in b (cut_to e t)) f) room
       ∙ ap (λ (y : Ends). step (world_in b (cut_to y t)) f settle_records) q) c in
       let text : reply_text r number records ≡ answered (fronts_world b t) f number =
-      reply-text (world_in b (cut_to e t)) (world_in r.book x) f r lent records long p number
+      reply_text_lem (world_in b (cut_to e t)) (world_in r.book x) f r lent records long p number
       ∙ ap (λ (y : Ends). answered (world_in b (cut_to y t)) f number) q in
       record {
         holds = (

@@ -1,11 +1,9 @@
--- What the tag of a found field says of it, where the code has told its cases apart, and what the field does there. By cases.
+-- What the case of a found field says of it, where the code has told its cases apart, and what the field does there. By cases.
 use Prim.Native.Nat.{ℕ, ◌+◌, ◌≤◌}
 use native.Mathlib.Omega.{arith}
 use mathlib.Core.Path.{◌≡◌, refl, sym, ap, ◌∙◌}
 use mathlib.Core.Bool.{Bool, true, false}
-use mathlib.Core.List.{List, [], ◌∷◌}
-use types.Run.{OneOf, miss}
-use denote.Enum.Declared.{tag_of}
+use mathlib.Core.List.{List}
 use Rattle.rules.specs.Sizes.{element_size}
 use Rattle.rules.specs.declared.Fields.{Fields}
 use Rattle.rules.specs.World.{World}
@@ -14,7 +12,6 @@ use Rattle.file.specs.declared.fields.Found.{Found}
 use Rattle.file.specs.declared.fields.Found.TheVariants.{Month, Element, Message, End, More, Broken}
 use Rattle.file.specs.Field.{field_size, Inside}
 use Rattle.file.specs.Program.{Heading, collected}
-use Rattle.file.specs.contracts.fields.Found.{the_type}
 use Rattle.runner.specs.declared.fields.Task.{Task}
 use Rattle.runner.specs.Stages.{start, elements, messages, over, quiet, broken, opened_to, opening, move_on, is_more, is_end}
 use Rattle.runner.specs.Tasks.{opening_task, message_task, task_of, is_other}
@@ -22,58 +19,40 @@ use Rattle.runner.proofs.StageLaws.{never}
 
 -- ---- every case but one
 
-pub not_end : (f : Found) → OneOf (0 ∷ 1 ∷ 2 ∷ 4 ∷ 5 ∷ []) (tag_of the_type f) → is_end f ≡ false
+pub not_end : (f : Found) → (f ≡ End → ⊥) → is_end f ≡ false
 unfolding is_end
 not_end (Month year month points suppliers) h = refl
 not_end (Element size) h = refl
 not_end (Message f) h = refl
-not_end End h = absurd (miss (0 ∷ 1 ∷ 2 ∷ 4 ∷ 5 ∷ []) 3 tt h)
+not_end End h = absurd (h refl)
 not_end More h = refl
 not_end Broken h = refl
 
-pub not_more : (f : Found) → OneOf (0 ∷ 1 ∷ 2 ∷ 3 ∷ 5 ∷ []) (tag_of the_type f) → is_more f ≡ false
+pub not_more : (f : Found) → (f ≡ More → ⊥) → is_more f ≡ false
 unfolding is_more
 not_more (Month year month points suppliers) h = refl
 not_more (Element size) h = refl
 not_more (Message f) h = refl
 not_more End h = refl
-not_more More h = absurd (miss (0 ∷ 1 ∷ 2 ∷ 3 ∷ 5 ∷ []) 4 tt h)
+not_more More h = absurd (h refl)
 not_more Broken h = refl
 
--- ---- what is to be done, by the tag
+-- ---- what is to be done, by the case
 
-pub message-opens : (f : Found) → OneOf (2 ∷ []) (tag_of the_type f) → Task.Open false ≡ opening_task f
+pub rest-opens : (f : Found) → ((x : Fields) → f ≡ Message x → ⊥) → (f ≡ End → ⊥) → Task.Other ≡ opening_task f
 unfolding opening_task
-message-opens (Month year month points suppliers) h = absurd (miss (2 ∷ []) 0 tt h)
-message-opens (Element size) h = absurd (miss (2 ∷ []) 1 tt h)
-message-opens (Message f) h = refl
-message-opens End h = absurd (miss (2 ∷ []) 3 tt h)
-message-opens More h = absurd (miss (2 ∷ []) 4 tt h)
-message-opens Broken h = absurd (miss (2 ∷ []) 5 tt h)
+rest-opens (Month year month points suppliers) h k = refl
+rest-opens (Element size) h k = refl
+rest-opens (Message f) h k = absurd (h f refl)
+rest-opens End h k = absurd (k refl)
+rest-opens More h k = refl
+rest-opens Broken h k = refl
 
-pub end-opens : (f : Found) → OneOf (3 ∷ []) (tag_of the_type f) → Task.Open true ≡ opening_task f
-unfolding opening_task
-end-opens (Month year month points suppliers) h = absurd (miss (3 ∷ []) 0 tt h)
-end-opens (Element size) h = absurd (miss (3 ∷ []) 1 tt h)
-end-opens (Message f) h = absurd (miss (3 ∷ []) 2 tt h)
-end-opens End h = refl
-end-opens More h = absurd (miss (3 ∷ []) 4 tt h)
-end-opens Broken h = absurd (miss (3 ∷ []) 5 tt h)
-
-pub rest-opens : (f : Found) → OneOf (0 ∷ 1 ∷ 4 ∷ 5 ∷ []) (tag_of the_type f) → Task.Other ≡ opening_task f
-unfolding opening_task
-rest-opens (Month year month points suppliers) h = refl
-rest-opens (Element size) h = refl
-rest-opens (Message f) h = absurd (miss (0 ∷ 1 ∷ 4 ∷ 5 ∷ []) 2 tt h)
-rest-opens End h = absurd (miss (0 ∷ 1 ∷ 4 ∷ 5 ∷ []) 3 tt h)
-rest-opens More h = refl
-rest-opens Broken h = refl
-
-pub rest_takes : (f : Found) → OneOf (0 ∷ 1 ∷ 3 ∷ 4 ∷ 5 ∷ []) (tag_of the_type f) → Task.Other ≡ message_task f
+pub rest_takes : (f : Found) → ((x : Fields) → f ≡ Message x → ⊥) → Task.Other ≡ message_task f
 unfolding message_task
 rest_takes (Month year month points suppliers) h = refl
 rest_takes (Element size) h = refl
-rest_takes (Message f) h = absurd (miss (0 ∷ 1 ∷ 3 ∷ 4 ∷ 5 ∷ []) 2 tt h)
+rest_takes (Message f) h = absurd (h f refl)
 rest_takes End h = refl
 rest_takes More h = refl
 rest_takes Broken h = refl
@@ -81,25 +60,25 @@ rest_takes Broken h = refl
 -- ---- what the field does
 
 module _ (at : ℕ) (bytes : List ℕ) where
-  pub start-else : (f : Found) → OneOf (1 ∷ 2 ∷ 3 ∷ 4 ∷ 5 ∷ []) (tag_of the_type f) → is_more f ≡ false
+  pub start_else : (f : Found) → ((y m p s : ℕ) → f ≡ Month y m p s → ⊥) → is_more f ≡ false
       → move_on at start f bytes ≡ broken at 1
   unfolding move_on is_more
-  start-else (Month year month points suppliers) h m = absurd (miss (1 ∷ 2 ∷ 3 ∷ 4 ∷ 5 ∷ []) 0 tt h)
-  start-else (Element size) h m = refl
-  start-else (Message f) h m = refl
-  start-else End h m = refl
-  start-else More h m = never m
-  start-else Broken h m = refl
+  start_else (Month year month points suppliers) h m = absurd (h year month points suppliers refl)
+  start_else (Element size) h m = refl
+  start_else (Message f) h m = refl
+  start_else End h m = refl
+  start_else More h m = never m
+  start_else Broken h m = refl
 
-  pub elements-else : (g : Heading) (values : List (List ℕ)) (f : Found) → OneOf (0 ∷ 2 ∷ 3 ∷ 4 ∷ 5 ∷ []) (tag_of the_type f)
+  pub elements_else : (g : Heading) (values : List (List ℕ)) (f : Found) → ((n : ℕ) → f ≡ Element n → ⊥)
       → is_more f ≡ false → is_other (opening_task f) ≡ true → move_on at (elements g values) f bytes ≡ broken at 1
   unfolding move_on is_more opening_task is_other
-  elements-else g values (Month year month points suppliers) h m o = refl
-  elements-else g values (Element size) h m o = absurd (miss (0 ∷ 2 ∷ 3 ∷ 4 ∷ 5 ∷ []) 1 tt h)
-  elements-else g values (Message f) h m o = never (sym o)
-  elements-else g values End h m o = never (sym o)
-  elements-else g values More h m o = never m
-  elements-else g values Broken h m o = refl
+  elements_else g values (Month year month points suppliers) h m o = refl
+  elements_else g values (Element size) h m o = absurd (h size refl)
+  elements_else g values (Message f) h m o = never (sym o)
+  elements_else g values End h m o = never (sym o)
+  elements_else g values More h m o = never m
+  elements_else g values Broken h m o = refl
 
   pub messages-end : (w : World) (n : ℕ) (f : Found) → is_end f ≡ true → move_on at (messages w n) f bytes ≡ quiet over at
   unfolding move_on is_end
@@ -110,23 +89,25 @@ module _ (at : ℕ) (bytes : List ℕ) where
   messages-end w n More e = never (sym e)
   messages-end w n Broken e = never (sym e)
 
-  pub messages-else : (w : World) (n : ℕ) (f : Found) → is_more f ≡ false → is_end f ≡ false → is_other (message_task f) ≡ true
+  pub messages_else : (w : World) (n : ℕ) (f : Found) → is_more f ≡ false → is_end f ≡ false → is_other (message_task f) ≡ true
       → move_on at (messages w n) f bytes ≡ broken at 1
   unfolding move_on is_more is_end message_task is_other
-  messages-else w n (Month year month points suppliers) m e o = refl
-  messages-else w n (Element size) m e o = refl
-  messages-else w n (Message f) m e o = never (sym o)
-  messages-else w n End m e o = never e
-  messages-else w n More m e o = never m
-  messages-else w n Broken m e o = refl
+  messages_else w n (Month year month points suppliers) m e o = refl
+  messages_else w n (Element size) m e o = refl
+  messages_else w n (Message f) m e o = never (sym o)
+  messages_else w n End m e o = never e
+  messages_else w n More m e o = never m
+  messages_else w n Broken m e o = refl
 
 -- ---- what is to be done
 
-pub other_opening : (f : Found) (phase : Phase) → phase ≡ Phase.Elements → is_other (task_of phase f) ≡ true → is_other (opening_task f) ≡ true
+pub other_opening : (f : Found) (phase : Phase) → phase ≡ Phase.Elements → is_other (task_of phase f) ≡ true
+    → is_other (opening_task f) ≡ true
 unfolding task_of
 other_opening f phase e h = sym (ap (λ (p : Phase). is_other (task_of p f)) e) ∙ h
 
-pub other_message : (f : Found) (phase : Phase) → phase ≡ Phase.Messages → is_other (task_of phase f) ≡ true → is_other (message_task f) ≡ true
+pub other_message : (f : Found) (phase : Phase) → phase ≡ Phase.Messages → is_other (task_of phase f) ≡ true
+    → is_other (message_task f) ≡ true
 unfolding task_of
 other_message f phase e h = sym (ap (λ (p : Phase). is_other (task_of p f)) e) ∙ h
 

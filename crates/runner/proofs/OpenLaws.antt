@@ -107,13 +107,13 @@ settles o h =
 -- ---- the tables' own opening
 
 module _ (b : Book) (t : Lists) (s : Sized t) (h : settle_answer (fronts_opening b t) ≡ 0) where
-  pub settled-fitted : Fitted b
-  settled-fitted = let p = settles (fronts_opening b t) h in limited_fitted b (fronts b t) p.within p.points
+  pub settled_fitted : Fitted b
+  settled_fitted = let p = settles (fronts_opening b t) h in limited_fitted b (fronts b t) p.within p.points
 
-  parts-sized : question3 (fronts_world (anew b) t) ≡ true
+  parts_sized : question3 (fronts_world (anew b) t) ≡ true
   unfolding question3 ends_of tables_sized lines_sized reading_count line_places line_count month_days
-  parts-sized =
-      let f = within b settled-fitted (ends_of b) refl t s in
+  parts_sized =
+      let f = within b settled_fitted (ends_of b) refl t s in
       rw (
         (settles (fronts_opening b t) h).sized,
         s.links,
@@ -125,16 +125,16 @@ module _ (b : Book) (t : Lists) (s : Sized t) (h : settle_answer (fronts_opening
         front-sized (b.suppliers * b.elements * line_size) t.sent f.sent,
       )
 
-  opens-parts : opening_answer (fronts_world (anew b) t) ≡ 0
+  opens_parts : opening_answer (fronts_world (anew b) t) ≡ 0
   unfolding opening_answer question2 question4 ask rows_fit ends_of lent_for
-  opens-parts = let p = settles (fronts_opening b t) h in rw (p.within, parts-sized, p.elements)
+  opens_parts = let p = settles (fronts_opening b t) h in rw (p.within, parts_sized, p.elements)
 
   -- cleared parts are the opened book's
-  pub opened-parts : (t' : Lists) → fronts b t' ≡ cleared (fronts b t) → fronts_world (anew b) t' ≡ opened (lent_for (fronts_opening b t))
+  pub opened_parts : (t' : Lists) → fronts b t' ≡ cleared (fronts b t) → fronts_world (anew b) t' ≡ opened (lent_for (fronts_opening b t))
   unfolding ends_of
-  opened-parts t' e =
+  opened_parts t' e =
       ap (world_in (anew b)) e
-      ∙ opened-cleared b.year b.month b.points b.suppliers b.elements (fronts b t) opens-parts
+      ∙ opened-cleared b.year b.month b.points b.suppliers b.elements (fronts b t) opens_parts
       ∙ unfold opened lent_for in refl
 
 -- ---- the values that were read are the tables' opening
@@ -146,9 +146,9 @@ count-many : (n : ℕ) → most_elements < n → most_elements < min (most_eleme
 count-many n h = omega arith
 
 module _ (b : Book) (t : Lists) (h : Heading) (values : List (List ℕ)) (v : HoldsValues b t.element_data t.prices h values) where
-  collected-in : length values ≤ most_elements → fronts_opening b t ≡ collected h values
+  collected_in : length values ≤ most_elements → fronts_opening b t ≡ collected h values
   unfolding ends_of collected
-  collected-in l = rw (v.book, count-few (length values) l, v.described l, v.priced l)
+  collected_in l = rw (v.book, count-few (length values) l, v.described l, v.priced l)
 
   collected-many : most_elements < length values → most_elements < (fronts_opening b t).elements
   collected-many l = rw v.book (count-many (length values) l)
@@ -157,9 +157,9 @@ module _ (b : Book) (t : Lists) (h : Heading) (values : List (List ℕ)) (v : Ho
   unfolding opening
   many at o more l = rw (too_many o l)
 
-  opening-in : (at : ℕ) (more : World → Stage) → opening at (fronts_opening b t) more ≡ opening at (collected h values) more
-  opening-in at more = cases (leb (length values) most_elements)
-      (λ l. ap (λ (o : Opening). opening at o more) (collected-in (leb-true _ _ l)))
+  opening_in_lem : (at : ℕ) (more : World → Stage) → opening at (fronts_opening b t) more ≡ opening at (collected h values) more
+  opening_in_lem at more = cases (leb (length values) most_elements)
+      (λ l. ap (λ (o : Opening). opening at o more) (collected_in (leb-true _ _ l)))
       (λ l. let k = leb-false _ _ l in many at (fronts_opening b t) more (collected-many k)
       ∙ sym (many at (collected h values) more (unfold collected in k)))
 
@@ -184,31 +184,31 @@ module _ (b : Book) (t : Lists) (h : Heading) (values : List (List ℕ)) (v : Ho
       book-opens z =
           let k : settle_answer (fronts_opening b t) ≡ 0 = sym a ∙ z in
           let p = settles (fronts_opening b t) k in
-          let same : fronts_world (anew b) t' ≡ opened (lent_for (fronts_opening b t)) = opened-parts b t s k t' (c z) in
-          rw (← opening-in at (opened_to last), e, f z, z, k) (record {
+          let same : fronts_world (anew b) t' ≡ opened (lent_for (fronts_opening b t)) = opened_parts b t s k t' (c z) in
+          rw (← opening_in_lem at (opened_to last), e, f z, z, k) (record {
             holds = opened-holds (opened (lent_for (fronts_opening b t))) last
                 (record { world = sym same; whole = p.whole; points = p.points });
             text = loosened (omega arith) (rw (f z, z) at w);
             place = refl;
           })
 
-      book-stays : question ≢ 0 → Done
+      book_stays : question ≢ 0 → Done
       unfolding opening broken ended_by opening_text
-      book-stays z =
+      book_stays z =
           let k : settle_answer (fronts_opening b t) ≢ 0 = λ y. z (a ∙ y) in
-          rw (← opening-in at (opened_to last), e, ne_eqb question 0 z, ne_eqb (settle_answer (fronts_opening b t)) 0 k) (record {
+          rw (← opening_in_lem at (opened_to last), e, ne_eqb question 0 z, ne_eqb (settle_answer (fronts_opening b t)) 0 k) (record {
             holds = refl;
             text = loosened (omega arith) (rw (ne_eqb question 0 z, a) at w);
             place = refl;
           })
 
-      pub opening-advances : Done
-      opening-advances = cases (eqb question 0) (λ x. book-opens (eqb-true _ _ x)) (λ x. book-stays (eqb-false _ _ x))
+      pub opening_advances : Done
+      opening_advances = cases (eqb question 0) (λ x. book-opens (eqb-true _ _ x)) (λ x. book_stays (eqb-false _ _ x))
 
 -- the book that is opened fits the tables, and has the dates of its month
 pub fresh-ready : (b : Book) (t : Lists) → Sized t → settle_answer (fronts_opening b t) ≡ 0 → Fitted (anew b) × Dated (anew b)
 fresh-ready b t s h =
-    let f = settled-fitted b t s h in (
+    let f = settled_fitted b t s h in (
       record { month = f.month; points = f.points; suppliers = f.suppliers; elements = f.elements },
       record { month = f.month; first = refl; days = refl },
     )

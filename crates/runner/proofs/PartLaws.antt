@@ -19,7 +19,7 @@ use Rattle.rules.specs.Basics.{all_to}
 use Rattle.rules.specs.World.{Opening, World}
 use Rattle.rules.specs.WellFormed.{within_limits, element_right}
 use Rattle.rules.specs.Effects.{ask, posted, accepted, step_by, step}
-use Rattle.rules.specs.Lent.{Lists, world_in, opening_in, lend_elements, lend_tables}
+use Rattle.rules.specs.Lent.{Lists, world_in, opening_in, lend_tables}
 use Rattle.rules.proofs.Parts.{limits, lengths}
 use Rattle.rules.specs.Whole.{Whole}
 use Rattle.recording.specs.Opened.{cleared}

@@ -2,7 +2,7 @@
 -- bytes in hand, whatever follows them. By cases on the stage and the field.
 use Prim.Native.Nat.{ℕ, suc, ◌+◌, ◌≤◌, ◌<◌}
 use mathlib.Core.Path.{◌≡◌, refl, sym, ap, ◌∙◌}
-use mathlib.Core.Logic.{◌⊎◌, ⊎_elim}
+use mathlib.Core.Logic.{⊎_elim}
 use mathlib.Core.Bool.{Bool, true, false}
 use mathlib.Core.List.{List, [], ◌++◌, append-nil}
 use lib.ListN.{length, drop, length-drop, length-append}
@@ -208,7 +208,8 @@ front-moves stage front rest ended h found e = cases (is_more found)
     (λ m.
     let l : Inside 0 (length front) found = rw e (inside_in front (phase_of stage) ended) in
     let k : length front ≤ length (front ++ rest) = rw length-append (omega arith) in
-    let d : field_of (front ++ rest) (phase_of stage) ≡ found = decided front rest (phase_of stage) ended h (ap is_more (sym e) ∙ m) ∙ sym e in
+    let d : field_of (front ++ rest) (phase_of stage) ≡ found = decided front rest (phase_of stage) ended h
+    (ap is_more (sym e) ∙ m) ∙ sym e in
     rw (
       ← drop-append-le (move_on 0 stage found front).next front rest (next-inside stage found front l),
       ← same_move stage found front rest l,

@@ -3,7 +3,7 @@ use Prim.Native.Nat.{ℕ, ◌+◌, ◌*◌, ◌≤◌, ◌<◌}
 use native.Mathlib.Numerals.{add-one}
 use native.Mathlib.Omega.{arith}
 use mathlib.Core.Path.{◌≡◌, sym, ap, ap₂, subst, ◌∙◌}
-use mathlib.Core.List.{List, [], ◌∷◌, ◌++◌, flat_map}
+use mathlib.Core.List.{List, ◌++◌, flat_map}
 use lib.IntN.{ℤ}
 use lib.ListN.{length, get_or, get_or-append}
 use borrow.Author.Tests.{ne_eqb}
@@ -17,9 +17,9 @@ use Rattle.rules.specs.declared.Record.{Record}
 use Rattle.rules.specs.Answers.{number_of}
 use Rattle.rules.specs.Basics.{list_to}
 use Rattle.rules.specs.World.{World}
-use Rattle.rules.specs.Effects.{written, answer, records_of}
-use Rattle.rules.proofs.Passed.{records-fit}
-use Rattle.rules.proofs.Ranges.{length-list_to, get_d-list_to}
+use Rattle.rules.specs.Effects.{written, records_of}
+use Rattle.rules.proofs.Passed.{records_fit}
+use Rattle.rules.proofs.Ranges.{length-list_to, get_d_list_to}
 use Rattle.ledger.specs.RecordNumbers.{record_at, RecordPlaces, numbers_after}
 use Rattle.ledger.proofs.RecordNumbers.{records-read, records-placed}
 use Rattle.settlement.specs.declared.Reply.{Reply}
@@ -27,7 +27,7 @@ use Rattle.settlement.specs.Replies.{room_in, Replied}
 use Rattle.file.specs.declared.fields.Phase.{Phase}
 use Rattle.file.specs.Lines.{book_line, record_line, refused_line, longest_line, Written}
 use Rattle.file.specs.Program.{settle_records, record_lines, answered}
-use Rattle.file.proofs.PlacedLaws.{nothing_written, loosened, text-more}
+use Rattle.file.proofs.PlacedLaws.{nothing_written, loosened, text_more}
 use Rattle.runner.specs.declared.Advanced.{Advanced}
 use Rattle.runner.specs.Texts.{longest_text, advanced_to, opened_over, opening_text, reply_text}
 
@@ -44,13 +44,13 @@ module _ (numbers : List ℤ) where
       → Written ((i + 1) * longest_line) a c from next (record_lines (list_to (record_at numbers) (i + 1)))
   unfolding list_to
   line_more i a b c from at next v r e w room =
-      rw (add-one i) (text-more record_line longest_line i (list_to (record_at numbers) i) (record_at numbers i) v (rw e at w) room)
+      rw (add-one i) (text_more record_line longest_line i (list_to (record_at numbers) i) (record_at numbers i) v (rw e at w) room)
 
 -- an entry of a list that begins with them
 pub listed_at : (f : ℕ → Record) (count i : ℕ) (rest list : List Record) (other : Record) → i < count → list ≡ list_to f count ++ rest
     → get_or list i other ≡ f i
 listed_at f count i rest list other less e =
-    rw (e, get_or-append (list_to f count) rest other i (rw (length-list_to f count) less)) (get_d-list_to f count i other less)
+    rw (e, get_or-append (list_to f count) rest other i (rw (length-list_to f count) less)) (get_d_list_to f count i other less)
 
 -- ---- the records of a message
 
@@ -67,7 +67,7 @@ module _ (w after : World) (f : Fields) (r : Reply) (lent out : List ℤ)
   list-is = p.list ∙ ap (λ (n : ℕ). numbers_after (records_of w f n) lent) room-is
 
   pub few-records : r.records ≤ settle_records
-  few-records = let h = records-fit w f settle_records in let e = count-is in omega arith
+  few-records = let h = records_fit w f settle_records in let e = count-is in omega arith
 
   pub placed-records : (i : ℕ) → i < r.records → RecordPlaces out i
   placed-records i l = rw list-is (records-placed (records_of w f settle_records) lent i (let e = count-is in omega arith))
@@ -76,16 +76,16 @@ module _ (w after : World) (f : Fields) (r : Reply) (lent out : List ℤ)
   read-records = rw (count-is, list-is) (records-read (records_of w f settle_records) lent)
 
   -- what is printed is the definition's text
-  pub reply-text : (message : ℕ) → reply_text r message out ≡ answered w f message
+  pub reply_text_lem : (message : ℕ) → reply_text r message out ≡ answered w f message
   unfolding reply_text answered
-  reply-text message = rw (p.number, room-is, read-records)
+  reply_text_lem message = rw (p.number, room-is, read-records)
 
 module _ (r : Reply) (message : ℕ) (numbers : List ℤ) where
-  pub records-put : number_of r.answer ≡ 0 → r.records ≤ settle_records → {from next : ℕ} {a b : List ℕ}
+  pub records_put : number_of r.answer ≡ 0 → r.records ≤ settle_records → {from next : ℕ} {a b : List ℕ}
       → Written (r.records * longest_line) a b from next (record_lines (list_to (record_at numbers) r.records))
       → Written longest_text a b from next (reply_text r message numbers)
   unfolding reply_text
-  records-put z few w = rw z (loosened (omega arith) w)
+  records_put z few w = rw z (loosened (omega arith) w)
 
   -- a message without records prints nothing
   pub nothing_put : number_of r.answer ≡ 0 → r.records ≡ 0 → (out : List ℕ) (from : ℕ)
@@ -93,41 +93,44 @@ module _ (r : Reply) (message : ℕ) (numbers : List ℤ) where
   unfolding reply_text flat_map list_to
   nothing_put z none out from = rw (z, none) (nothing_written longest_text out from)
 
-  pub refused-put : (question : ℕ) → question ≡ number_of r.answer → question ≢ 0 → {from next : ℕ} {a b : List ℕ}
-      → Written longest_line a b from next (refused_line message question) → Written longest_text a b from next (reply_text r message numbers)
+  pub refused_put : (question : ℕ) → question ≡ number_of r.answer → question ≢ 0 → {from next : ℕ} {a b : List ℕ}
+      → Written longest_line a b from next (refused_line message question)
+      → Written longest_text a b from next (reply_text r message numbers)
   unfolding reply_text
-  refused-put question e z w = rw (← e, ne_eqb question 0 z) (loosened (omega arith) w)
+  refused_put question e z w = rw (← e, ne_eqb question 0 z) (loosened (omega arith) w)
 
 -- the text ends where the run says
 pub text-moved : {over : Bool} {b : Book} {number next from written : ℕ} {out after text : List ℕ} (r : Advanced)
     → Written longest_text out after from written text → r ≡ advanced_to Phase.Messages over b number next written
     → Written longest_text out after from r.written text × (r ≡ advanced_to Phase.Messages over b number next r.written)
 text-moved {over = over} {b = b} {number = number} {next = next} {from = from} {out = out} {after = after} {text = text} r w e =
-    let n = sym (ap (λ (x : Advanced). x.written) e) in
-    (subst (λ (x : ℕ). Written longest_text out after from x text) n w, e ∙ ap (λ (x : ℕ). advanced_to Phase.Messages over b number next x) n)
+    let n = sym (ap (λ (x : Advanced). x.written) e) in (
+      subst (λ (x : ℕ). Written longest_text out after from x text) n w,
+      e ∙ ap (λ (x : ℕ). advanced_to Phase.Messages over b number next x) n,
+    )
 
 -- ---- an opening
 
 module _ (b : Book) (question : ℕ) where
-  pub line-put : question ≡ 0 → (days first : ℕ) → days ≡ days_of_month b.year b.month → first ≡ first_day b.year b.month
+  pub line_put : question ≡ 0 → (days first : ℕ) → days ≡ days_of_month b.year b.month → first ≡ first_day b.year b.month
       → (out after : List ℕ) (from written : ℕ) (last : Bool) (at : ℕ) (r : Advanced)
       → Written longest_line out after from written (book_line b.year b.month days first)
       → r ≡ advanced_to Phase.Messages last b 1 at written
       → Written longest_line out after from r.written (opening_text b question)
       × (r ≡ advanced_to Phase.Messages (opened_over question last) b 1 at r.written)
   unfolding opening_text
-  line-put z days first d f out after from written last at r w e =
+  line_put z days first d f out after from written last at r w e =
       let n : r.written ≡ written = ap (λ (x : Advanced). x.written) e in
       let k : last ≡ opened_over question last = rw z in
       (rw (n, z) (rw (d, f) at w), e ∙ ap₂ (λ (x : Bool) (y : ℕ). advanced_to Phase.Messages x b 1 at y) k (sym n))
 
-  pub refusal-put : question ≢ 0 → (out after : List ℕ) (from written : ℕ) (last : Bool) (at : ℕ) (r : Advanced)
+  pub refusal_put : question ≢ 0 → (out after : List ℕ) (from written : ℕ) (last : Bool) (at : ℕ) (r : Advanced)
       → Written longest_line out after from written (refused_line 0 question)
       → r ≡ advanced_to Phase.Messages true b 1 at written
       → Written longest_line out after from r.written (opening_text b question)
       × (r ≡ advanced_to Phase.Messages (opened_over question last) b 1 at r.written)
   unfolding opening_text
-  refusal-put z out after from written last at r w e =
+  refusal_put z out after from written last at r w e =
       let n : r.written ≡ written = ap (λ (x : Advanced). x.written) e in
       let k : true ≡ opened_over question last = rw (ne_eqb question 0 z) in
       (rw (n, ne_eqb question 0 z) w, e ∙ ap₂ (λ (x : Bool) (y : ℕ). advanced_to Phase.Messages x b 1 at y) k (sym n))

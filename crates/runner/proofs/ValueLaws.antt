@@ -41,8 +41,8 @@ counted_more n = omega arith
 
 module _ (b : Book) (ds : List ℕ) (ps : List ℤ) (h : Heading) (values : List (List ℕ)) (v : HoldsValues b ds ps h values) (value : List ℕ)
     (r : Book) (c : r ≡ counted b) where
-  book-more : r ≡ named_book h.year h.month h.points h.suppliers (min (most_elements + 1) (length (values ++ (value ∷ []))))
-  book-more = c ∙ rw (v.book, length_more values value, counted_more (length values))
+  book_more : r ≡ named_book h.year h.month h.points h.suppliers (min (most_elements + 1) (length (values ++ (value ∷ []))))
+  book_more = c ∙ rw (v.book, length_more values value, counted_more (length values))
 
   -- there is room for it
   pub value_read : b.elements < most_elements → element_size ≤ length value
@@ -58,17 +58,18 @@ module _ (b : Book) (ds : List ℕ) (ps : List ℤ) (h : Heading) (values : List
       let l : n ≤ most_elements = omega arith in
       let t : length (take element_size value) ≡ element_size = length-take-le element_size value m in
       record {
-        book = book-more;
+        book = book_more;
         described = λ q. rw (d, z, length_more values value, described_more values value, ← v.described l)
             (placed-front ds (n * element_size) (take element_size value) ((n + 1) * element_size) (omega arith) (omega (arith, t)));
         priced = λ q. rw (p, z, length_more values value, prices_more values value, ← v.priced l)
-            (placed-front ps (n * price_places) (prices_in value) ((n + 1) * price_places) (omega arith) (omega (arith, prices-long value)));
+            (placed-front ps (n * price_places) (prices_in value) ((n + 1) * price_places) (omega arith)
+            (omega (arith, prices-long value)));
       }
 
   -- there is none
-  pub value-dropped : most_elements ≤ b.elements → HoldsValues r ds ps h (values ++ (value ∷ []))
-  value-dropped k =
+  pub value_dropped : most_elements ≤ b.elements → HoldsValues r ds ps h (values ++ (value ∷ []))
+  value_dropped k =
       let n = length values in
       let e : b.elements ≡ min (most_elements + 1) n = ap (λ (x : Book). x.elements) v.book in
       let l = length_more values value in
-      record { book = book-more; described = λ q. absurd (omega arith); priced = λ q. absurd (omega arith) }
+      record { book = book_more; described = λ q. absurd (omega arith); priced = λ q. absurd (omega arith) }

@@ -1,5 +1,6 @@
 -- What the numbers of a run and the tables lent to it stand for, and what is promised of one field.
-use Rattle.std.specs.Prelude.{ℕ, ◌+◌, ◌-◌, ◌*◌, ◌≤◌, ◌<◌, min, ◌≡◌, Bool, true, false, not, ◌&&◌, List, [], ◌++◌, ℤ, length, take, drop, leb, ltb}
+use Rattle.std.specs.Prelude.{ℕ, ◌+◌, ◌-◌, ◌*◌, ◌≤◌, ◌<◌, min, ◌≡◌, Bool, true, false, not, ◌&&◌, List, [], ◌++◌, ℤ}
+use Rattle.std.specs.Prelude.{length, take, drop, leb, ltb}
 use Rattle.rules.specs.declared.Book.{Book}
 use Rattle.rules.specs.Sizes.{element_size, most_elements, price_places}
 use Rattle.rules.specs.World.{World}

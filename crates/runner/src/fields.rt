@@ -1,7 +1,7 @@
 // One field that opens no book and is no message of one, by what may come next; and which of the three it is.
 ghost use Rattle.std.specs.Prelude.{◌≡◌, true, false, List, [], ◌∷◌, ◌++◌, ℕ, ◌+◌, ◌*◌, ◌≤◌, length, take, drop};
 ghost use Rattle.rules.specs.Sizes.{most_elements, element_size, price_places};
-ghost use Rattle.rules.specs.Lent.{Lists, lend_elements, left, was};
+ghost use Rattle.rules.specs.Lent.{Lists, lend_elements};
 ghost use Rattle.rules.specs.World.{World};
 ghost use Rattle.file.specs.Field.{field_size, Inside};
 ghost use Rattle.file.specs.Lines.{longest_line};
@@ -19,7 +19,7 @@ use rules::{Book, Fields, MOST_ELEMENTS};
 
 // ---- what a field asks to be done
 
-#[derive(Drop)]
+#[derive(Clone, Copy)]
 pub enum Task {
     // the book opens; is the input at its end
     Open { last: bool },
@@ -77,7 +77,7 @@ fn is_end(found: Found) -> bool
 // The run ends with question 1.
 fn refuse(book: Book, at: usize, out: &mut [u8], from: usize) -> Advanced
     requires { from + longest_line ≤ length out.old }
-    ensures advances { (t : Lists) → Advances (broken at 1) result.progress t (was out) (left out) result.next from result.written }
+    ensures advances { (t : Lists) → Advances (broken at 1) result.progress t out.old out.new result.next from result.written }
     ensures done { result.more ≡ false }
 {
     let written = put_refused(out, from, 0, 1);
@@ -94,7 +94,7 @@ fn on_start(
 ) -> Advanced
     requires { (from + longest_line ≤ length out.old) × (is_more found ≡ false) × (place ≡ at + field_size found) }
     ensures advances { (t : Lists) (bytes : List ℕ) →
-        Advances (move_on at start found bytes) result.progress t (was out) (left out) result.next from result.written }
+        Advances (move_on at start found bytes) result.progress t out.old out.new result.next from result.written }
     ensures done { result.more ≡ false }
 {
     let Found::Month {
@@ -139,9 +139,10 @@ fn take_element(
     prices: &mut [i64],
 ) -> Book
     requires size_in_bounds { (start + size ≤ length s.now) × (element_size ≤ size) }
-    requires element_data_len { (length element_data.old ≡ most_elements * element_size) × (length prices.old ≡ most_elements * price_places) }
-    ensures { (h : Heading) (values : List (List ℕ)) → HoldsValues book (was element_data) (was prices) h values
-        → HoldsValues result (left element_data) (left prices) h (values ++ (take size (drop start (was s)) ∷ [])) }
+    requires element_data_len { (length element_data.old ≡ most_elements * element_size)
+        × (length prices.old ≡ most_elements * price_places) }
+    ensures { (h : Heading) (values : List (List ℕ)) → HoldsValues book element_data.old prices.old h values
+        → HoldsValues result element_data.new prices.new h (values ++ (take size (drop start s.now) ∷ [])) }
 {
     if book.elements < MOST_ELEMENTS {
         let e = book.elements as usize;
@@ -164,13 +165,14 @@ fn gather(
     out: &mut [u8],
     from: usize,
 ) -> Advanced
-    requires element_data_len { (length element_data.old ≡ most_elements * element_size) × (length prices.old ≡ most_elements * price_places) }
+    requires element_data_len { (length element_data.old ≡ most_elements * element_size)
+        × (length prices.old ≡ most_elements * price_places) }
     requires inside { Inside at (length s.now) found × (is_more found ≡ false) × (is_other (opening_task found) ≡ true) }
     requires longest_line_in_bounds { (from + longest_line ≤ length out.old) × (place ≡ at + field_size found) }
     ensures advances { (h : Heading) (values : List (List ℕ)) (o : Lists) →
-        HoldsValues book (was element_data) (was prices) h values
-        → Advances (move_on at (elements h values) found (was s)) result.progress (lend_elements (left element_data) (left prices) o)
-        (was out) (left out) result.next from result.written }
+        HoldsValues book element_data.old prices.old h values
+        → Advances (move_on at (elements h values) found s.now) result.progress (lend_elements element_data.new prices.new o)
+        out.old out.new result.next from result.written }
     ensures done { result.more ≡ false }
 {
     let Found::Element { length } = found else {
@@ -184,7 +186,7 @@ fn gather(
 fn finish(book: Book, found: Found, at: usize, out: &mut [u8], from: usize) -> Advanced
     requires { (from + longest_line ≤ length out.old) × (is_more found ≡ false) × (is_other (message_task found) ≡ true) }
     ensures advances { (t : Lists) (w : World) (n : ℕ) (bytes : List ℕ) →
-        Advances (move_on at (messages w n) found bytes) result.progress t (was out) (left out) result.next from result.written }
+        Advances (move_on at (messages w n) found bytes) result.progress t out.old out.new result.next from result.written }
     ensures done { result.more ≡ false }
 {
     if is_end(found) {
@@ -216,12 +218,13 @@ pub fn take_field(
     out: &mut [u8],
     from: usize,
 ) -> Advanced
-    requires element_data_len { (length element_data.old ≡ most_elements * element_size) × (length prices.old ≡ most_elements * price_places) }
+    requires element_data_len { (length element_data.old ≡ most_elements * element_size)
+        × (length prices.old ≡ most_elements * price_places) }
     requires inside { Inside at (length s.now) found × (is_other (task_of progress.phase found) ≡ true) }
     requires longest_line_in_bounds { (from + longest_line ≤ length out.old) × (progress.over ≡ false) × (place ≡ at + field_size found) }
-    ensures advances { (o : Lists) (stage : Stage) → Represents progress (lend_elements (was element_data) (was prices) o) stage
-        → Advances (move_on at stage found (was s)) result.progress (lend_elements (left element_data) (left prices) o)
-        (was out) (left out) result.next from result.written }
+    ensures advances { (o : Lists) (stage : Stage) → Represents progress (lend_elements element_data.old prices.old o) stage
+        → Advances (move_on at stage found s.now) result.progress (lend_elements element_data.new prices.new o)
+        out.old out.new result.next from result.written }
     ensures done { result.more ≡ is_more found }
 {
     if is_more(found) {

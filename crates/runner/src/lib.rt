@@ -1,8 +1,10 @@
 // The run of the program `settle` over input bytes, one field at a time: document 01, "File and program". The tables are lent at the
 // program's own sizes; a book uses the fronts of them.
+#![tactic(auto)]
+
 ghost use Rattle.std.specs.Prelude.{◌≡◌, ◌+◌, ◌*◌, ◌≤◌, ◌<◌, false, length, take, drop};
 ghost use Rattle.rules.specs.Sizes.{record_size};
-ghost use Rattle.rules.specs.Lent.{Lists, given, lent, left, was};
+ghost use Rattle.rules.specs.Lent.{Lists, given};
 ghost use Rattle.file.specs.Program.{settle_records};
 ghost use Rattle.runner.specs.Stages.{Stage, start, move_on, found_at, is_more};
 ghost use Rattle.runner.specs.Parts.{Sized};
@@ -28,7 +30,7 @@ use validation::questions::number;
 pub const LONGEST_TEXT: usize = MOST_LINES * LONGEST_LINE;
 
 // How far a run has come.
-#[derive(Drop)]
+#[derive(Clone, Copy)]
 pub struct Progress {
     // the fields that may come next
     pub phase: Phase,
@@ -42,7 +44,7 @@ pub struct Progress {
 // ---- one field
 
 // What one field has done.
-#[derive(Drop)]
+#[derive(Clone, Copy)]
 pub struct Advanced {
     pub progress: Progress,
     // the place that the run goes on from
@@ -102,15 +104,18 @@ pub fn advance(
     out: &mut [u8],
     from: usize,
 ) -> Advanced
-    requires sized { Sized (given element_data prices links holders states readings blocks lines sent) }
-    requires stands { Stands progress (given element_data prices links holders states readings blocks lines sent) }
+    requires sized { Sized (given element_data.old prices.old links.old holders.old states.old readings.old blocks.old lines.old sent.old) }
+    requires stands { Stands progress
+        (given element_data.old prices.old links.old holders.old states.old readings.old blocks.old lines.old sent.old) }
     requires over_value { (progress.over ≡ false) × (progress.number < last_number) × (at ≤ length s.now) }
     requires records_len { (length records.old ≡ settle_records * record_size) × (from + longest_text ≤ length out.old) }
-    ensures advances { let t = lent element_data prices links holders states readings blocks lines sent in
-        (stage : Stage) → Represents progress t.entry stage
-        → Advances (move_on at stage (found_at (was s) at progress.phase ended) (was s)) result.progress t.exit
-        (was out) (left out) result.next from result.written }
-    ensures done { result.more ≡ is_more (found_at (was s) at progress.phase ended) }
+    ensures advances { let before = given element_data.old prices.old links.old holders.old states.old readings.old blocks.old
+        lines.old sent.old in
+        let after = given element_data.new prices.new links.new holders.new states.new readings.new blocks.new lines.new sent.new in
+        (stage : Stage) → Represents progress before stage
+        → Advances (move_on at stage (found_at s.now at progress.phase ended) s.now) result.progress after
+        out.old out.new result.next from result.written }
+    ensures done { result.more ≡ is_more (found_at s.now at progress.phase ended) }
 {
     let phase = progress.phase;
     let located = read(s, at, phase, ended);
@@ -174,7 +179,7 @@ pub fn advance(
 // ---- the run
 
 // How far a call of `run` has come.
-#[derive(Drop)]
+#[derive(Clone, Copy)]
 pub struct Ran {
     pub progress: Progress,
     // the place of the input that the run goes on from
@@ -222,13 +227,16 @@ pub fn run(
     records: &mut [i64],
     out: &mut [u8],
 ) -> Ran
-    requires sized { Sized (given element_data prices links holders states readings blocks lines sent) }
-    requires stands { Stands progress (given element_data prices links holders states readings blocks lines sent) }
+    requires sized { Sized (given element_data.old prices.old links.old holders.old states.old readings.old blocks.old lines.old sent.old) }
+    requires stands { Stands progress
+        (given element_data.old prices.old links.old holders.old states.old readings.old blocks.old lines.old sent.old) }
     requires at_in_bounds { (at ≤ length s.now) × (length records.old ≡ settle_records * record_size) }
-    ensures reached { let t = lent element_data prices links holders states readings blocks lines sent in
-        (stage : Stage) → Represents progress t.entry stage
-        → Reached ended stage (drop at (was s)) (take result.written (left out)) result.progress t.exit (drop result.next (was s)) }
-    ensures stopped { Stopped (was s) ended (was out) (left out) result }
+    ensures reached { let before = given element_data.old prices.old links.old holders.old states.old readings.old blocks.old
+        lines.old sent.old in
+        let after = given element_data.new prices.new links.new holders.new states.new readings.new blocks.new lines.new sent.new in
+        (stage : Stage) → Represents progress before stage
+        → Reached ended stage (drop at s.now) (take result.written out.new) result.progress after (drop result.next s.now) }
+    ensures stopped { Stopped s.now ended out.old out.new result }
 {
     let mut p = progress;
     let mut place = at;

@@ -3,7 +3,7 @@ ghost use Rattle.std.specs.Prelude.{◌≡◌, ◌*◌, length};
 ghost use Rattle.rules.specs.Sizes.{most_elements, element_size, price_places};
 ghost use Rattle.rules.specs.Whole.{Dated};
 ghost use Rattle.rules.specs.Answers.{number_of};
-ghost use Rattle.rules.specs.Lent.{Lists, lend_elements, lend_tables, left, was};
+ghost use Rattle.rules.specs.Lent.{Lists, lend_elements, lend_tables};
 ghost use Rattle.recording.specs.Opened.{cleared};
 ghost use Rattle.file.specs.Program.{settle_answer};
 ghost use Rattle.runner.specs.Parts.{Sized, Fitted, ends_of, fronts, fronts_opening, elements_answer};
@@ -32,7 +32,7 @@ pub const BLOCK_PLACES: usize = SETTLE_POINTS as usize;
 pub const LINE_TABLE_PLACES: usize = MOST_LINES * LINE_SIZE;
 
 // Where the parts of a book end.
-#[derive(Drop)]
+#[derive(Clone, Copy)]
 pub struct Ends {
     pub described: usize,
     pub priced: usize,
@@ -62,9 +62,10 @@ pub fn ends_of(book: Book) -> Ends
 // Question 4 of the elements that were read. 24 steps for each element.
 fn ask_elements(book: Book, element_data: &[u8], prices: &[i64]) -> Answer
     requires fitted { Fitted book }
-    requires element_data_len { (length element_data.now ≡ most_elements * element_size) × (length prices.now ≡ most_elements * price_places) }
+    requires element_data_len { (length element_data.now ≡ most_elements * element_size)
+        × (length prices.now ≡ most_elements * price_places) }
     ensures { (o : Lists) →
-        number_of result ≡ elements_answer (fronts_opening book (lend_elements (was element_data) (was prices) o)) }
+        number_of result ≡ elements_answer (fronts_opening book (lend_elements element_data.now prices.now o)) }
 {
     let elements = book.elements as usize;
     let described = elements * ELEMENT_SIZE;
@@ -80,7 +81,7 @@ fn ask_elements(book: Book, element_data: &[u8], prices: &[i64]) -> Answer
 pub fn ask_opening(book: Book, element_data: &[u8], prices: &[i64]) -> Answer
     requires { (length element_data.now ≡ most_elements * element_size) × (length prices.now ≡ most_elements * price_places) }
     ensures { (o : Lists) →
-        number_of result ≡ settle_answer (fronts_opening book (lend_elements (was element_data) (was prices) o)) }
+        number_of result ≡ settle_answer (fronts_opening book (lend_elements element_data.now prices.now o)) }
 {
     if is_limited(book) {
         if book.points <= SETTLE_POINTS {
@@ -105,8 +106,8 @@ pub fn clear_parts(
     requires sized { (o : Lists) ×
         Sized (lend_tables links.old holders.old states.old readings.old blocks.old lines.old sent.old o) }
     ensures { (o : Lists) →
-        let t = lend_tables (was links) (was holders) (was states) (was readings) (was blocks) (was lines) (was sent) o in
-        let after = lend_tables (left links) (left holders) (left states) (left readings) (left blocks) (left lines) (left sent) o in
+        let t = lend_tables links.old holders.old states.old readings.old blocks.old lines.old sent.old o in
+        let after = lend_tables links.new holders.new states.new readings.new blocks.new lines.new sent.new o in
         fronts book after ≡ cleared (fronts book t) }
 {
     let ends = ends_of(book);

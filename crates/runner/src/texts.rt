@@ -2,7 +2,6 @@
 ghost use Rattle.std.specs.Prelude.{◌≡◌, false, ℕ, ◌+◌, ◌*◌, ◌≤◌, ◌<◌, length};
 ghost use Rattle.rules.specs.Whole.{Dated};
 ghost use Rattle.rules.specs.Basics.{list_to};
-ghost use Rattle.rules.specs.Lent.{left, was};
 ghost use Rattle.ledger.specs.RecordNumbers.{record_at, RecordPlaces};
 ghost use Rattle.file.specs.Lines.{longest_line, Written};
 ghost use Rattle.file.specs.Program.{settle_records, record_lines};
@@ -21,7 +20,7 @@ use validation::questions::number;
 fn put_records(records: &[i64], count: usize, out: &mut [u8], from: usize) -> usize
     requires count_le_settle_records { (count ≤ settle_records) × ((i : ℕ) → i < count → RecordPlaces records.now i) }
     requires longest_line_in_bounds { from + count * longest_line ≤ length out.old }
-    ensures { Written (count * longest_line) (was out) (left out) from result (record_lines (list_to (record_at (was records)) count)) }
+    ensures { Written (count * longest_line) out.old out.new from result (record_lines (list_to (record_at records.now) count)) }
 {
     let list = listed(records, count);
     let mut written = from;
@@ -37,7 +36,7 @@ fn put_records(records: &[i64], count: usize, out: &mut [u8], from: usize) -> us
 fn put_reply(reply: Reply, message: u64, records: &[i64], out: &mut [u8], from: usize) -> usize
     requires records_le_settle_records { (reply.records ≤ settle_records) × ((i : ℕ) → i < reply.records → RecordPlaces records.now i) }
     requires longest_text_in_bounds { from + longest_text ≤ length out.old }
-    ensures { Written longest_text (was out) (left out) from result (reply_text reply message (was records)) }
+    ensures { Written longest_text out.old out.new from result (reply_text reply message records.now) }
 {
     let answer = reply.answer;
     let question = number(answer);
@@ -62,7 +61,7 @@ pub fn message_done(
 ) -> Advanced
     requires records_le_settle_records { (reply.records ≤ settle_records) × ((i : ℕ) → i < reply.records → RecordPlaces records.now i) }
     requires longest_text_in_bounds { (from + longest_text ≤ length out.old) × (message < last_number) }
-    ensures text { Written longest_text (was out) (left out) from result.written (reply_text reply message (was records)) }
+    ensures text { Written longest_text out.old out.new from result.written (reply_text reply message records.now) }
     ensures moved { result ≡ advanced_to Phase.Messages false reply.book (message + 1) next result.written }
 {
     let written = put_reply(reply, message, records, out, from);
@@ -81,7 +80,7 @@ pub fn opening_done(
 ) -> Advanced
     requires dated { question ≡ 0 → Dated book }
     requires longest_line_in_bounds { from + longest_line ≤ length out.old }
-    ensures text { Written longest_line (was out) (left out) from result.written (opening_text book question) }
+    ensures text { Written longest_line out.old out.new from result.written (opening_text book question) }
     ensures moved { result ≡ advanced_to Phase.Messages (opened_over question last) book 1 at result.written }
 {
     if question == 0 {

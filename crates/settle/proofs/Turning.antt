@@ -24,7 +24,7 @@ use Rattle.settle.specs.declared.Output.{Output}
 use Rattle.runner.proofs.StageLaws.{never}
 use Rattle.runner.proofs.RunLaws.{runs_joined}
 use Rattle.settle.specs.Sessions.{arrived, ended_by, failed_by, buffer_size, Lent, Turns}
-use Rattle.settle.specs.Sessions.{Begun, with_output, goes_on, Followed}
+use Rattle.settle.specs.Sessions.{Begun, with_output, goes_on, status_of, Followed}
 use Rattle.settle.proofs.Answers.{come_fits}
 use Rattle.settle.proofs.Pieces.{part-rest}
 
@@ -74,8 +74,8 @@ module _ (s : Session) (got : ℤ) (t : Lists) (buffer out : List ℕ) (ran : Ra
         t' (take held buffer')
     reached stage p = rw (← same, ← a, ← e) (r stage p)
 
-    pub turns-so : Turns s got t buffer (turned_to s ran held ended failed) t' buffer' out'
-    turns-so =
+    pub turns_so : Turns s got t buffer (turned_to s ran held ended failed) t' buffer' out'
+    turns_so =
         record {
           reached = reached;
           held = omega (arith, k, l, within);
@@ -101,12 +101,12 @@ module _ (s : Session) (got : ℤ) (t : Lists) (before buffer : List ℕ) (r : T
     ended-before : s.ended ≡ true → (ended_by s got ≡ true) × (come ≡ [])
     ended-before e = cases s.waits (λ x. never (sym e ∙ w x)) (λ x. (rw (x, e), rw x))
 
-    at-hand : take (s.held + arrived s got (length buffer)) buffer ≡ take s.held before ++ come
-    at-hand = take-add s.held (arrived s got (length buffer)) buffer ∙ ap (λ (x : List ℕ). x ++ come) k
+    at_hand : take (s.held + arrived s got (length buffer)) buffer ≡ take s.held before ++ come
+    at_hand = take-add s.held (arrived s got (length buffer)) buffer ∙ ap (λ (x : List ℕ). x ++ come) k
 
-    pub followed-on : Followed (with_output r.session output) t' buffer'
-    followed-on =
-        let q = rw (at-hand) at (u.reached f.reached.stage f.reached.holds) in
+    pub followed_on : Followed (with_output r.session output) t' buffer'
+    followed_on =
+        let q = rw (at_hand) at (u.reached f.reached.stage f.reached.holds) in
         record {
           read = f.read ++ come;
           written = f.written ++ take output.count out';
@@ -170,7 +170,7 @@ going_on s got t before buffer records r t' buffer' out' records' g k l u z m n 
         held = u.held;
         room = n ∙ g.ready.room;
       };
-      followed = followed-on s got t before buffer r t' buffer' out' g.followed k g.goes u output o;
+      followed = followed_on s got t before buffer r t' buffer' out' g.followed k g.goes u output o;
       goes = λ w. u.ended ∙ (u.waits w).0;
     }
 
@@ -179,3 +179,8 @@ pub turn_left : (s : Session) → goes_on s ≡ true → s.turns < last_number
 unfolding goes_on
 turn_left s e = cases s.unwritten (λ w. never (sym (rw w at e))) (λ w. cases s.progress.over (λ o. never (sym (rw (w, o) at e)))
     (λ o. cases s.failed (λ f. never (sym (rw (w, o, f) at e))) (λ f. ltb-true s.turns last_number (rw (w, o, f) at e))))
+
+pub status_small : (s : Session) → status_of s ≤ 3
+unfolding status_of
+status_small s = cases s.unwritten (λ w. rw w (omega arith)) (λ w. cases s.progress.over (λ o. rw (w, o) (omega arith))
+    (λ o. cases s.failed (λ f. rw (w, o, f) (omega arith)) (λ f. rw (w, o, f) (omega arith))))

@@ -1,12 +1,13 @@
 -- A session of the program: what a turn takes in, what it promises, and with which status the program ends.
-use Rattle.std.specs.Prelude.{ℕ, suc, ◌+◌, ◌-◌, ◌*◌, ◌≤◌, ◌<◌, ◌≡◌, Bool, true, false, not, ◌&&◌, cond, List, [], ◌++◌, ℤ, pos, negsuc, length, take, eqb, ltb}
+use Rattle.std.specs.Prelude.{ℕ, ◌+◌, ◌-◌, ◌*◌, ◌≤◌, ◌<◌, ◌≡◌, Bool, true, false, not, ◌&&◌, cond}
+use Rattle.std.specs.Prelude.{List, ℤ, pos, negsuc, length, take, eqb, ltb}
 use Rattle.io.specs.Counts.{clamp_len}
 use Rattle.rules.specs.Sizes.{record_size}
 use Rattle.rules.specs.Lent.{Lists}
 use Rattle.file.specs.Program.{settle_records}
 use Rattle.runner.specs.Stages.{Stage, start}
 use Rattle.runner.specs.Parts.{Sized}
-use Rattle.runner.specs.Texts.{longest_text, last_number}
+use Rattle.runner.specs.Texts.{last_number}
 use Rattle.runner.specs.Holding.{Represents, Stands, Reached, can_go_on, longest_field}
 use Rattle.settle.specs.declared.Session.{Session}
 use Rattle.settle.specs.declared.Turned.{Turned}

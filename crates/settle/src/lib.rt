@@ -1,25 +1,28 @@
 // `settle` reads a month's file from standard input and prints the book's line, its records and its refusals. The input comes in pieces
 // through one buffer. What happens between a read and a write is one function, `turn`; `run_session` reads, makes a turn and writes until
 // the run is over, and answers the program's status.
-ghost use Rattle.std.specs.Prelude.{◌≡◌, ◌-◌, ◌*◌, ◌≤◌, ◌<◌, length, take, drop};
+#![tactic(auto)]
+
+ghost use Rattle.std.specs.Prelude.{◌≡◌, ℕ, List, ◌-◌, ◌*◌, ◌≤◌, ◌<◌, length, take, drop};
 ghost use Rattle.calendar.specs.Gregorian.{longest_month};
 ghost use Rattle.rules.specs.Sizes.{hour_places, record_size};
-ghost use Rattle.rules.specs.Lent.{given, lent, left, was};
+ghost use Rattle.rules.specs.Lent.{Lists, given};
 ghost use Rattle.file.specs.Program.{settle_records, settle_points};
 ghost use Rattle.runner.specs.Parts.{Sized};
 ghost use Rattle.runner.specs.Texts.{last_number, longest_text};
 ghost use Rattle.settle.specs.Sessions.{arrived, ended_by, failed_by, buffer_size, Lent, Turns};
 ghost use Rattle.settle.specs.Sessions.{Begun, with_output, goes_on, status_of, Ended};
 
-use libc::{EINTR, STDIN_FILENO, STDOUT_FILENO};
 use rules::{PLACES, RECORD_NUMBERS};
 use runner::parts::{
     BLOCK_PLACES, DATA_PLACES, LINE_TABLE_PLACES, PRICE_TABLE_PLACES, READING_PLACES,
 };
 use runner::{LONGEST_TEXT, Progress, begin, run};
+use std::io::{Input as ReadsInput, Read, Write, writer};
+use streams::{read_some, write_whole};
 
 // How far a session has come between two turns.
-#[derive(Drop)]
+#[derive(Clone, Copy)]
 pub struct Session {
     pub progress: Progress,
     // how many bytes at the front of the buffer are still to be taken
@@ -37,20 +40,20 @@ pub struct Session {
 }
 
 // What a read has answered: how many bytes have come, 0 at the end of the input, less where it failed.
-#[derive(Drop)]
+#[derive(Clone, Copy)]
 pub struct Input {
     pub answer: isize,
 }
 
 // What a turn leaves: the session, and how many bytes of the output are to be written.
-#[derive(Drop)]
+#[derive(Clone, Copy)]
 pub struct Turned {
     pub session: Session,
     pub written: usize,
 }
 
 // What was handed over for writing: how many bytes from the front of the output, and whether all of them were written.
-#[derive(Drop)]
+#[derive(Clone, Copy)]
 pub struct Output {
     pub count: usize,
     pub done: bool,
@@ -61,7 +64,7 @@ pub struct Output {
 // How many bytes have come behind those in hand.
 fn bytes_arrived(session: Session, input: Input, buffer: &[u8]) -> usize
     requires { session.held ≤ length buffer.now }
-    ensures { result ≡ arrived session input.answer (length (was buffer)) }
+    ensures { result ≡ arrived session input.answer (length buffer.now) }
 {
     if session.waits {
         let held = session.held;
@@ -94,7 +97,7 @@ fn has_failed(session: Session, input: Input) -> bool
 // The bytes from `at` up to `have` come to the front of the buffer; how many there are.
 fn keep_rest(buffer: &mut [u8], at: usize, have: usize) -> usize
     requires { (at ≤ have) × (have ≤ length buffer.old) }
-    ensures { (result ≡ have - at) × (take result (left buffer) ≡ take (have - at) (drop at (was buffer))) }
+    ensures { (result ≡ have - at) × (take result buffer.new ≡ take (have - at) (drop at buffer.old)) }
 {
     let rest = have - at;
     let mut i = 0;
@@ -124,10 +127,13 @@ pub fn turn(
     records: &mut [i64],
     out: &mut [u8],
 ) -> Turned
-    requires lent { Lent session (given element_data prices links holders states readings blocks lines sent) buffer.old records.old }
+    requires lent { Lent session
+        (given element_data.old prices.old links.old holders.old states.old readings.old blocks.old lines.old sent.old)
+        buffer.old records.old }
     requires turns_lt_last_number { (session.turns < last_number) × (longest_text ≤ length out.old) }
-    ensures { let t = lent element_data prices links holders states readings blocks lines sent in
-        Turns session input.answer t.entry (was buffer) result t.exit (left buffer) (left out) }
+    ensures { let before = given element_data.old prices.old links.old holders.old states.old readings.old blocks.old lines.old sent.old in
+        let after = given element_data.new prices.new links.new holders.new states.new readings.new blocks.new lines.new sent.new in
+        Turns session input.answer before buffer.old result after buffer.new out.new }
 {
     let have = session.held + bytes_arrived(session, input, buffer);
     let ended = has_ended(session, input);
@@ -169,57 +175,43 @@ pub fn turn(
 
 // ---- the input and the output
 
-fn is_interrupted(input: Input) -> bool {
-    if input.answer < 0 {
-        return os::errno() == EINTR;
-    }
-    false
-}
-
-// One read, tried again where a signal has interrupted it; nothing says that this ends, so the tries are counted down.
-fn read_input(free: &mut [u8]) -> Input {
-    let mut tries = u64::MAX;
-    while tries > 0 {
-        let input = Input {
-            answer: libc::read(STDIN_FILENO, free),
-        };
-        if is_interrupted(input) {
-            tries -= 1;
-        } else {
-            return input;
+// One read; where it fails, the program says so.
+fn read_input<E: Eprint, R: Read>(rt: &E, reader: &mut R, free: &mut [u8]) -> Input {
+    match read_some(reader, free) {
+        Ok(count) => Input {
+            answer: count as isize,
+        },
+        Err(e) => {
+            let _ = eprintln!(rt; "settle: the input could not be read: {e}");
+            Input { answer: -1 }
         }
     }
-    Input { answer: -1 }
 }
 
 // Where the session waits, reads behind the bytes in hand.
-fn read_on(session: Session, buffer: &mut [u8]) -> Input
+fn read_on<E: Eprint, R: Read>(rt: &E, reader: &mut R, session: Session, buffer: &mut [u8]) -> Input
     requires { session.held ≤ length buffer.old }
-    ensures { take session.held (left buffer) ≡ take session.held (was buffer) }
+    ensures { take session.held buffer.new ≡ take session.held buffer.old }
 {
     if session.waits {
         let held = session.held;
-        let free = &mut buffer[held..];
-        let input = read_input(free);
-        if input.answer < 0 {
-            os::fail(b"settle: the input could not be read");
-        }
-        return input;
+        return read_input(rt, reader, &mut buffer[held..]);
     }
     Input { answer: 0 }
 }
 
-// Writes the front of the output.
-fn write_out(out: &[u8], count: usize) -> Output
+// Writes the front of the output; where that fails, the program says so.
+fn write_out<E: Eprint, W: Write>(rt: &E, output: &mut W, out: &[u8], count: usize) -> Output
     requires { count ≤ length out.now }
     ensures { result.count ≡ count }
 {
-    let done = io::write_all(STDOUT_FILENO, &out[..count]);
-    if done {
-        return Output { count, done };
+    match write_whole(output, &out[..count]) {
+        Ok(()) => Output { count, done: true },
+        Err(e) => {
+            let _ = eprintln!(rt; "settle: the output could not be written: {e}");
+            Output { count, done: false }
+        }
     }
-    os::fail(b"settle: the output could not be written");
-    Output { count, done }
 }
 
 // ---- a session
@@ -275,7 +267,10 @@ fn status(session: Session) -> u32
 }
 
 // Reads, makes a turn and writes, until the run is over, the input cannot be read or the output cannot be written; the program's status.
-fn run_session(
+fn run_session<E: Eprint, R: Read, W: Write>(
+    rt: &E,
+    reader: &mut R,
+    output: &mut W,
     buffer: &mut [u8],
     element_data: &mut [u8],
     prices: &mut [i64],
@@ -289,15 +284,16 @@ fn run_session(
     records: &mut [i64],
     out: &mut [u8],
 ) -> u32
-    requires sized { Sized (given element_data prices links holders states readings blocks lines sent) }
+    requires sized { Sized (given element_data.old prices.old links.old holders.old states.old readings.old blocks.old lines.old sent.old) }
     requires buffer_len { (length buffer.old ≡ buffer_size) × (length records.old ≡ settle_records * record_size)
         × (longest_text ≤ length out.old) }
-    ensures { let t = lent element_data prices links holders states readings blocks lines sent in
-        Ended result t.exit (left buffer) }
+    ensures { let before = given element_data.old prices.old links.old holders.old states.old readings.old blocks.old lines.old sent.old in
+        let after = given element_data.new prices.new links.new holders.new states.new readings.new blocks.new lines.new sent.new in
+        Ended result after buffer.new }
 {
     let mut session = begin_session();
     while goes_on(session) {
-        let input = read_on(session, buffer);
+        let input = read_on(rt, reader, session, buffer);
         let turned = turn(
             session,
             input,
@@ -315,9 +311,9 @@ fn run_session(
             out,
         );
         let written = turned.written;
-        let output = write_out(out, written);
+        let handed = write_out(rt, output, out, written);
         let after = turned.session;
-        session = with_output(after, output);
+        session = with_output(after, handed);
     }
     status(session)
 }
@@ -345,9 +341,13 @@ fn no_text() -> [u8; TEXT_PLACES]
     [0; TEXT_PLACES]
 }
 
-// The program: `program/settle.c` calls it and ends with its answer, since a program of the kit cannot set its status.
-#[unsafe(no_mangle)]
-pub extern "C" fn settle_run() -> u32 {
+// What the program does, and its status: `main` of `settle_program` ends with it.
+pub fn settle_run<R: ReadsInput + Print + Eprint>(rt: &R) -> u32
+    ensures ended { (after : Lists) × ((buffer : List ℕ) × Ended result after buffer) }
+    ensures fits { result ≤ 3 }
+{
+    let mut reader = rt.reader();
+    let mut output = writer(rt);
     let mut element_data = [0u8; DATA_PLACES];
     let mut prices = [0i64; PRICE_TABLE_PLACES];
     let mut links = [0u64; PLACES];
@@ -361,6 +361,9 @@ pub extern "C" fn settle_run() -> u32 {
     let mut out = no_text();
     let mut buffer = io::large_buffer();
     run_session(
+        rt,
+        &mut reader,
+        &mut output,
         &mut buffer,
         &mut element_data,
         &mut prices,

@@ -1,14 +1,13 @@
 -- A message that has passed questions 2 to 16: its changes are the rules', so question 17 and what is written are the rules' too.
 use Prim.Native.Nat.{ℕ, zero, suc, ◌*◌, ◌≤◌, ◌<◌}
 use mathlib.Core.Path.{◌≡◌, refl, sym, ap, ap₂, ◌∙◌}
-use mathlib.Core.Bool.{Bool, true, false, ◌&&◌, false≢true}
+use mathlib.Core.Bool.{Bool, true, false, ◌&&◌}
 use mathlib.Core.List.{List}
-use lib.IntN.{ℤ, pos, ◌+ℤ◌, +ℤ_idl}
+use lib.IntN.{ℤ, pos, +ℤ_idl}
 use lib.ListN.{length, get_or, replicate, length-replicate}
 use native.Mathlib.Omega.{arith}
 use Rattle.rules.specs.declared.Book.{Book}
 use Rattle.rules.specs.declared.Body.{Body}
-use Rattle.rules.specs.declared.Body.TheVariants.{Link, Stop, Quantity, Holder, State, Reading, Block, Round}
 use Rattle.rules.specs.Basics.{all_to}
 use Rattle.rules.specs.Lines.{Measure}
 use Rattle.rules.specs.Sizes.{line_size, most_elements, most_lines}
@@ -27,7 +26,7 @@ use Rattle.recording.specs.Recorded.{RecordedAs}
 use Rattle.recording.proofs.Leaves.{recorded_world}
 use Rattle.ledger.specs.Added.{added_lines, Changes, ByRules}
 use Rattle.ledger.specs.Moved.{lines_in}
-use Rattle.ledger.proofs.MovedLines.{moved-added, fit_is, changes}
+use Rattle.ledger.proofs.MovedLines.{moved_added, fit_is, changes}
 use Rattle.settlement.specs.Replies.{ReadyIn, Applied, moved_on}
 
 -- what the changes of the lines are computed from
@@ -64,12 +63,12 @@ module _ (o : Opening) (t : Tables) (b : Body) {cs : List ℤ} (m : Measure) (p 
   unfolding zeros
   change_is k l = p.at k l ∙ rw (zero-at most_lines k) (+ℤ_idl _)
 
-  by-rules : ByRules o t (told o t b) m cs
-  by-rules = record { is = change_is }
+  by_rules : ByRules o t (told o t b) m cs
+  by_rules = record { is = change_is }
 
-  long-enough : length cs ≡ most_lines
+  long_enough : length cs ≡ most_lines
   unfolding zeros
-  long-enough = p.same_length ∙ length-replicate most_lines (pos 0)
+  long_enough = p.same_length ∙ length-replicate most_lines (pos 0)
 
 -- the changes can be added
 pub changed : (b : Book) (o : Lists) (body : Body) → ReadyIn b o body → (qs vs : List ℤ) → PostedIn b o body zeros qs zeros vs
@@ -79,8 +78,8 @@ changed b o body r qs vs p =
     let w = world_in b o in
     let l = (lengths w r.whole).limited in
     let few = few-lines b.suppliers b.elements l.suppliers l.elements in
-    let q = long-enough (opening_in b o) (tables_in b o) body Measure.quantity p.quantity in
-    let v = long-enough (opening_in b o) (tables_in b o) body Measure.amount p.amount in
+    let q = long_enough (opening_in b o) (tables_in b o) body Measure.quantity p.quantity in
+    let v = long_enough (opening_in b o) (tables_in b o) body Measure.amount p.amount in
     changes w r.whole qs vs (omega arith) (omega arith)
     (λ k i. rw (change_is (opening_in b o) (tables_in b o) body Measure.quantity p.quantity k i)
     (change_small (opening_in b o) (tables_in b o) body (postable b o body r) Measure.quantity k i))
@@ -96,8 +95,8 @@ pub posted_rules : (b : Book) (o : Lists) (body : Body) (qs vs : List ℤ) → P
     → Rules (opening_in b o) (tables_in b o) body qs vs
 posted_rules b o body qs vs p =
     record {
-      quantity = by-rules (opening_in b o) (tables_in b o) body Measure.quantity p.quantity;
-      amount = by-rules (opening_in b o) (tables_in b o) body Measure.amount p.amount;
+      quantity = by_rules (opening_in b o) (tables_in b o) body Measure.quantity p.quantity;
+      amount = by_rules (opening_in b o) (tables_in b o) body Measure.amount p.amount;
     }
 
 -- ---- the world of a book and what is lent with it
@@ -120,7 +119,7 @@ module _ (b : Book) (o : Lists) (body : Body) (qs vs : List ℤ) (p : Rules (ope
   -- the lines with the changes are the rules'
   lines-moved : after-lines ≡ moved_lines (opening_in b o) o.lines t v
   unfolding line_count
-  lines-moved = sym (moved-added (opening_in b o) o.lines t v qs vs p.quantity p.amount)
+  lines-moved = sym (moved_added (opening_in b o) o.lines t v qs vs p.quantity p.amount)
 
   -- the code's test is question 17
   pub fits-is : (r : Bool) → r ≡ (rows_fit v && all_to (λ k. line_right after-lines (k * line_size)) (lines_in b))

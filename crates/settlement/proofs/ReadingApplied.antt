@@ -20,7 +20,7 @@ use Rattle.rules.specs.Lent.{Lists, world_in, opening_in, tables_in, lend_lines}
 use Rattle.rules.specs.Whole.{Whole}
 use Rattle.rules.proofs.Tests.{both}
 use Rattle.rules.proofs.Parts.{lengths, formed}
-use Rattle.rules.proofs.Ranges.{get_d-list_to}
+use Rattle.rules.proofs.Ranges.{get_d_list_to}
 use Rattle.metering.specs.Hours.{Reread, RereadBoth, ReadingSettled}
 use Rattle.recording.specs.Recorded.{RecordedAs}
 use Rattle.ledger.specs.Added.{ByRules, own_at, own_changes, own_lines}
@@ -29,20 +29,20 @@ use Rattle.settlement.specs.Replies.{Applied}
 use Rattle.settlement.proofs.Applying.{Rules, fits-is, applied, applied_not}
 
 module _ (o : Opening) (t : Tables) (b : Body) (who : ℕ) where
-  own-rules : (m : Measure) (cs : List ℤ) → Reread o t b who m cs
+  own_rules : (m : Measure) (cs : List ℤ) → Reread o t b who m cs
       → ByRules o t (told o t b) m (own_changes o.suppliers o.elements who cs)
   unfolding own_changes own_at line_count supplier_of element_of
-  own-rules m cs r =
+  own_rules m cs r =
       record {
         is = λ k l.
-            get_d-list_to (λ (i : ℕ). cond (eqb (i / o.elements + 1) who) (get_or cs (i % o.elements) (pos 0)) (pos 0))
+            get_d_list_to (λ (i : ℕ). cond (eqb (i / o.elements + 1) who) (get_or cs (i % o.elements) (pos 0)) (pos 0))
             (o.suppliers * o.elements) k (pos 0) l
             ∙ sym (r.is k l);
       }
 
-  reread-rules : (qs vs : List ℤ) → RereadBoth o t b who qs vs
+  reread_rules : (qs vs : List ℤ) → RereadBoth o t b who qs vs
       → Rules o t b (own_changes o.suppliers o.elements who qs) (own_changes o.suppliers o.elements who vs)
-  reread-rules qs vs r = record { quantity = own-rules Measure.quantity qs r.quantity; amount = own-rules Measure.amount vs r.amount }
+  reread_rules qs vs r = record { quantity = own_rules Measure.quantity qs r.quantity; amount = own_rules Measure.amount vs r.amount }
 
 -- what the lines are asked
 pub lines-asked : (b : Book) (o : Lists) → Whole (world_in b o)
@@ -57,7 +57,7 @@ module _ (b : Book) (o : Lists) (p d h n : ℕ) (c : Whole (world_in b o)) (out 
 
   own : Rules (opening_in b o) (tables_in b o) body (own_changes b.suppliers b.elements g.who g.qs)
       (own_changes b.suppliers b.elements g.who g.vs)
-  own = reread-rules (opening_in b o) (tables_in b o) body g.who g.qs g.vs g.both
+  own = reread_rules (opening_in b o) (tables_in b o) body g.who g.qs g.vs g.both
 
   -- a reading adds no row
   rows : rows_fit (told (opening_in b o) (tables_in b o) body) ≡ true
@@ -69,11 +69,11 @@ module _ (b : Book) (o : Lists) (p d h n : ℕ) (c : Whole (world_in b o)) (out 
   unfolding own_lines
   asked = fits-is b o body _ _ own x (rw rows g.fits)
 
-  pub reading-applied : x ≡ true → (after : Lists) → RecordedAs b o body b after
+  pub reading_applied : x ≡ true → (after : Lists) → RecordedAs b o body b after
       → opening_in b after ≡ opening_in b o → after.sent ≡ o.sent
       → Applied (world_in b o) (world_in b (lend_lines out after)) body 0
   unfolding own_lines
-  reading-applied f after r same s = applied b o body _ _ own (asked ∙ f) b after r same s out (rw f at g.lines)
+  reading_applied f after r same s = applied b o body _ _ own (asked ∙ f) b after r same s out (rw f at g.lines)
 
   pub reading-refused : x ≡ false → Applied (world_in b o) (world_in b (lend_lines out o)) body 17
   reading-refused f =

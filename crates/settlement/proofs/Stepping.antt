@@ -4,9 +4,7 @@ use Prim.Native.Nat.{ℕ, ◌+◌, ◌≤◌, ◌<◌, min}
 use mathlib.Core.Path.{◌≡◌, refl, sym, ap, ap₂, subst, ◌∙◌}
 use mathlib.Core.Logic.{◌≢◌}
 use mathlib.Core.Bool.{true, false, false≢true}
-use mathlib.Core.List.{List, [], ◌∷◌}
-use types.Run.{OneOf, miss}
-use denote.Enum.Declared.{tag_of}
+use mathlib.Core.List.{List}
 use mathlib.Core.Option.{Option, none, some}
 use lib.IntN.{ℤ}
 use lib.ListN.{length, set}
@@ -16,7 +14,6 @@ use native.Mathlib.Omega.{arith}
 use Rattle.rules.specs.declared.Book.{Book}
 use Rattle.rules.specs.declared.Body.{Body}
 use Rattle.rules.specs.declared.Body.TheVariants.{Link, Stop, Quantity, Holder, State, Reading, Block, Round}
-use Rattle.rules.specs.contracts.Body.{the_type}
 use Rattle.rules.specs.declared.Fields.{Fields}
 use Rattle.rules.specs.declared.Message.{Message}
 use Rattle.rules.specs.Answers.{number_of}
@@ -24,7 +21,8 @@ use Rattle.rules.specs.World.{World, facts_of, holder_on, state_on, energy_of}
 use Rattle.rules.specs.WellFormed.{rows_fit, within_limits, question2}
 use Rattle.rules.specs.Messages.{understood, body_in}
 use Rattle.rules.specs.Sizes.{last_round}
-use Rattle.rules.specs.Effects.{told, with_blocks, is_round, writes_row, written, records, tables_after, lines_after, posted, ask, question17}
+use Rattle.rules.specs.Effects.{told, with_blocks, is_round, writes_row, written, records, tables_after, lines_after}
+use Rattle.rules.specs.Effects.{posted, ask, question17}
 use Rattle.rules.specs.Effects.{question18, answer_to, answer, accepted, step_by, step, written_by, records_of}
 use Rattle.rules.specs.Lent.{Lists, world_in, opening_in, tables_in, lend_money, lend_blocks}
 use Rattle.rules.specs.Whole.{Whole}
@@ -35,8 +33,8 @@ use Rattle.rules.proofs.BookLaws.{whole-asked}
 use Rattle.rules.proofs.Passed.{behind, taken}
 use Rattle.rules.proofs.Kept.{posted-whole}
 use Rattle.validation.specs.Decided.{decided}
-use Rattle.validation.proofs.Next.{answer-decided, decided-passed, decided-refused}
-use Rattle.recording.proofs.Leaves.{block-left, recorded_world}
+use Rattle.validation.proofs.Next.{answer-decided, decided_passed, decided-refused}
+use Rattle.recording.proofs.Leaves.{block_left, recorded_world}
 use Rattle.ledger.specs.Moved.{lines_in, line_records, moved_count}
 use Rattle.ledger.specs.RecordNumbers.{numbers_after}
 use Rattle.ledger.proofs.RecordNumbers.{numbers_none}
@@ -86,9 +84,9 @@ module _ (w : World) (c : Whole w) (f : Fields) (room : ℕ) where
   asked-whole = whole-asked w c _
 
   -- question 6
-  pub answer-none : understood w.opening.suppliers f ≡ none → answer w f room ≡ 6
+  pub answer_none : understood w.opening.suppliers f ≡ none → answer w f room ≡ 6
   unfolding answer_to
-  answer-none u = asked-whole ∙ ap (λ x. answer_to w x room) u
+  answer_none u = asked-whole ∙ ap (λ x. answer_to w x room) u
 
   module _ (m : Message) (u : understood w.opening.suppliers f ≡ some m) where
     abbrev rest : ℕ
@@ -105,7 +103,7 @@ module _ (w : World) (c : Whole w) (f : Fields) (room : ℕ) where
     module _ (p : decided w.opening w.position.tables m 0 ≡ 0) where
       -- questions 17 and 18
       pub answer-rest : answer w f room ≡ rest
-      answer-rest = answer-some ∙ decided-passed w.opening w.position.tables m p rest
+      answer-rest = answer-some ∙ decided_passed w.opening w.position.tables m p rest
 
       late : (n : ℕ) → 2 ≤ n → n ≤ 16 → n ≢ rest
       unfolding ask
@@ -115,8 +113,8 @@ module _ (w : World) (c : Whole w) (f : Fields) (room : ℕ) where
           (λ a e. let z : n ≡ 17 = rw a at e in omega arith)
 
       -- the message is ready to be told
-      pub passed-ready : Ready w.opening w.position.tables m.body
-      passed-ready =
+      pub passed_ready : Ready w.opening w.position.tables m.body
+      passed_ready =
           let b = behind w f room rest late answer-rest in
           let e : some b.message ≡ some m = sym b.is ∙ u in
           let z : b.message ≡ m = cc in
@@ -157,17 +155,6 @@ row_no_round (Reading p d k n) h = refl
 row_no_round (Block p v) h = refl
 row_no_round Round h = absurd (false≢true h)
 
--- and what the tag of a round says
-pub round_is : (b : Body) → OneOf (7 ∷ []) (tag_of the_type b) → b ≡ Round
-round_is (Link p e d q) h = absurd (miss (7 ∷ []) 0 tt h)
-round_is (Stop p e d) h = absurd (miss (7 ∷ []) 1 tt h)
-round_is (Quantity p e d q) h = absurd (miss (7 ∷ []) 2 tt h)
-round_is (Holder p d v) h = absurd (miss (7 ∷ []) 3 tt h)
-round_is (State p d v) h = absurd (miss (7 ∷ []) 4 tt h)
-round_is (Reading p d k n) h = absurd (miss (7 ∷ []) 5 tt h)
-round_is (Block p v) h = absurd (miss (7 ∷ []) 6 tt h)
-round_is Round h = refl
-
 -- ---- messages that change no fact: question 17 passes, since tables and lines fit as before
 
 module _ (w : World) (c : Whole w) (b : Body)
@@ -196,7 +183,7 @@ block_applied b o c p v blocks e r k n z =
     record {
       number_is = rw h z;
       world = ap₂ (λ (x : Book) (y : List ℕ). world_in x (lend_blocks y o)) k e
-          ∙ rw h (recorded_world b b o after (Block p v) (block-left b o p v) refl ∙ rw (lines-still w c (Block p v) same rows));
+          ∙ rw h (recorded_world b b o after (Block p v) (block_left b o p v) refl ∙ rw (lines-still w c (Block p v) same rows));
     }
 
 -- ---- message 8
@@ -213,11 +200,11 @@ module _ (b : Book) (o : Lists) (c : Whole (world_in b o)) where
   unfolding posted tables_after told
   round-posted totals e n h = rw (lines-still w c Round (unfold told in refl) (unfold told in refl), round-sent w totals n e h)
 
-  pub replied-sent : (f : Fields) (r : Reply) (lent out : List ℤ) (m : Message) → understood b.suppliers f ≡ some m
+  pub replied_sent : (f : Fields) (r : Reply) (lent out : List ℤ) (m : Message) → understood b.suppliers f ≡ some m
       → decided w.opening w.position.tables m 0 ≡ 0 → m.body ≡ Round → (totals : List ℤ) → Sending w b r totals lent out
       → Replied w (world_in r.book (lend_money o.lines totals o)) f r lent out
   unfolding ask
-  replied-sent f r lent out m u p d totals g =
+  replied_sent f r lent out m u p d totals g =
       let e : answer w f (room_in lent) ≡ ask (question18 w Round (room_in lent)) 18 0 =
       answer-rest w c f (room_in lent) m u p ∙ rw (d, round-fits) in
       cases (question18 w Round (room_in lent))
@@ -248,7 +235,8 @@ module _ (b : Book) (o : Lists) (ls ts lent : List ℤ) (n : ℕ) (e : n ≡ mov
       (ap length (round-written money ∙ round-records b ls ts o) ∙ count-is b ls ts (lines_in b) ∙ sym e)
 
   pub sent-records : n ≤ room_in lent → number_of r.answer ≡ 0 → r.book ≡ with_round b (min last_round (b.round + 1)) → r.records ≡ n
-      → (totals out : List ℤ) → totals ≡ ls → out ≡ numbers_after (line_records b ls ts (lines_in b)) lent → Sending money b r totals lent out
+      → (totals out : List ℤ) → totals ≡ ls → out ≡ numbers_after (line_records b ls ts (lines_in b)) lent
+      → Sending money b r totals lent out
   unfolding ask
   sent-records h a k c totals out s l =
       let q = room-is ∙ le-leb n (room_in lent) h in

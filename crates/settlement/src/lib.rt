@@ -1,4 +1,6 @@
 // A message of a book that is well formed: questions 6 to 18, what it changes, and the records of a round.
+#![tactic(auto)]
+
 ghost use Rattle.std.specs.Prelude.{◌≡◌, true, ◌&&◌, take, ◌*◌};
 ghost use Rattle.rules.specs.declared.Answer.TheVariants.{Accepted};
 ghost use Rattle.rules.specs.declared.Body.TheVariants.{Reading};
@@ -8,7 +10,7 @@ ghost use Rattle.rules.specs.Basics.{all_to};
 ghost use Rattle.rules.specs.WellFormed.{rows_fit, line_right};
 ghost use Rattle.rules.specs.Effects.{told, writes_row};
 ghost use Rattle.rules.specs.Whole.{Whole};
-ghost use Rattle.rules.specs.Lent.{Lists, world_in, opening_in, tables_in, given, lent, left, was};
+ghost use Rattle.rules.specs.Lent.{Lists, world_in, opening_in, tables_in, given};
 ghost use Rattle.rules.specs.Lent.{lend_rows, lend_readings, lend_charging, lend_lines, lend_money};
 ghost use Rattle.tables.specs.Order.{TableRows};
 ghost use Rattle.ledger.specs.Added.{added_lines, Changes};
@@ -27,7 +29,7 @@ use validation::fields::{Understood, understand};
 use validation::questions::{decide, number};
 
 // What is answered to a message: the answer, the book afterwards, and how many records stand at the front of the list.
-#[derive(Drop)]
+#[derive(Clone, Copy)]
 pub struct Reply {
     pub answer: Answer,
     pub book: Book,
@@ -69,9 +71,10 @@ fn is_fitting(
     requires row_fits { RowFits (take book.periods links.now) body }
     requires changes { Changes lines.now quantities.now amounts.now (lines_in book) }
     ensures { (o : Lists) →
-        let t = lend_rows (was links) (was holders) (was states) o in
-        let after = added_lines (was lines) (was quantities) (was amounts) (lines_in book) in
-        result ≡ (rows_fit (told (opening_in book t) (tables_in book t) body) && all_to (λ k. line_right after (k * line_size)) (lines_in book)) }
+        let t = lend_rows links.now holders.now states.now o in
+        let after = added_lines lines.now quantities.now amounts.now (lines_in book) in
+        result ≡ (rows_fit (told (opening_in book t) (tables_in book t) body)
+        && all_to (λ k. line_right after (k * line_size)) (lines_in book)) }
 {
     let count = (book.suppliers * book.elements) as usize;
     let lines_right = lines_fit(lines, quantities, amounts, count);
@@ -99,9 +102,9 @@ fn apply_lines(
         readings.now (lend_lines lines.old o)) body }
     requires body_value { writes_row body ≡ true }
     ensures applied { (o : Lists) →
-        let t = lend_charging (was element_data) (was prices) (was links) (was holders) (was states) (was readings)
-        (lend_lines (was lines) o) in
-        let after = lend_rows (left links) (left holders) (left states) (lend_lines (left lines) t) in
+        let t = lend_charging element_data.now prices.now links.old holders.old states.old readings.now
+        (lend_lines lines.old o) in
+        let after = lend_rows links.new holders.new states.new (lend_lines lines.new t) in
         ReadyIn book t body → Applied (world_in book t) (world_in result.book after) body (number_of result.answer) }
     ensures none { result.records ≡ 0 }
 {
@@ -157,9 +160,9 @@ fn apply_reading(
         readings.old (lend_lines lines.old o)) (Reading new.point new.day new.hour new.energy) }
     ensures applied { (o : Lists) →
         let body = Reading new.point new.day new.hour new.energy in
-        let t = lend_charging (was element_data) (was prices) (was links) (was holders) (was states) (was readings)
-        (lend_lines (was lines) o) in
-        let after = lend_readings (left readings) (lend_lines (left lines) t) in
+        let t = lend_charging element_data.now prices.now links.now holders.now states.now readings.old
+        (lend_lines lines.old o) in
+        let after = lend_readings readings.new (lend_lines lines.new t) in
         ReadyIn book t body → Applied (world_in book t) (world_in result.book after) body (number_of result.answer) }
     ensures none { result.records ≡ 0 }
 {
@@ -193,8 +196,8 @@ fn with_round(book: Book, round: u64) -> Book
 fn send(book: Book, lines: &[i64], sent: &mut [i64], records: &mut [i64]) -> Reply
     requires { Settled book lines.now sent.old }
     ensures { (o : Lists) →
-        let w = world_in book (lend_money (was lines) (was sent) o) in
-        Sending w book result (left sent) (was records) (left records) }
+        let w = world_in book (lend_money lines.now sent.old o) in
+        Sending w book result sent.new records.old records.new }
 {
     let count = moved_count(book, lines, sent);
     if count <= records.len() / RECORD_SIZE {
@@ -221,11 +224,15 @@ pub fn message(
     records: &mut [i64],
     fields: Fields,
 ) -> Reply
-    requires { Whole (world_in book (given element_data prices links holders states readings blocks lines sent)) }
-    ensures replied { let t = lent element_data prices links holders states readings blocks lines sent in
-        Replied (world_in book t.entry) (world_in result.book t.exit) fields result (was records) (left records) }
-    ensures whole { let t = lent element_data prices links holders states readings blocks lines sent in
-        Whole (world_in result.book t.exit) }
+    requires { Whole
+        (world_in book (given element_data.now prices.now links.old holders.old states.old readings.old blocks.old lines.old sent.old)) }
+    ensures replied { let before =
+        given element_data.now prices.now links.old holders.old states.old readings.old blocks.old lines.old sent.old in
+        let after = given element_data.now prices.now links.new holders.new states.new readings.new blocks.new lines.new sent.new in
+        Replied (world_in book before) (world_in result.book after) fields result records.old records.new }
+    ensures whole { let after =
+        given element_data.now prices.now links.new holders.new states.new readings.new blocks.new lines.new sent.new in
+        Whole (world_in result.book after) }
 {
     let understood = understand(book.suppliers, fields);
     let Understood::Passed(m) = understood else {

@@ -24,14 +24,15 @@ use Rattle.rules.specs.Effects.{ask, ask_book, answer, accepted, step_by, step}
 use Rattle.rules.specs.Lent.{Lists, world_in}
 use Rattle.rules.specs.Queries.{LineResult, line_number, line_query, line_named, line_refused, periods_number, day_number}
 use Rattle.rules.specs.Queries.{DayResult, day_query, day_result_number}
-use Rattle.rules.specs.Packed.{numbers_right, owned_sum, in_ore, packed_size, packed, is_packed, packed_amount, read_packed, sum_number, sum_written}
+use Rattle.rules.specs.Packed.{numbers_right, owned_sum, in_ore, packed_size, packed, is_packed, packed_amount}
+use Rattle.rules.specs.Packed.{read_packed, sum_number, sum_written}
 use Rattle.rules.specs.Fresh.{fresh_facts}
 use Rattle.rules.specs.Claim.{Event, reached}
 use Rattle.rules.specs.Answers.{number_of, line_result}
 use Rattle.rules.proofs.Tests.{cases, both}
 use Rattle.rules.specs.Whole.{Whole}
 use Rattle.rules.proofs.Stored.{billionths_lt}
-use Rattle.rules.proofs.LineQuery.{query-stored}
+use Rattle.rules.proofs.LineQuery.{query_stored}
 use Rattle.rules.proofs.DayQuery.{day-number, day-answered, day-below}
 use Rattle.rules.proofs.Begin.{passed, begin-whole}
 use Rattle.rules.proofs.Parts.{limits}
@@ -41,8 +42,8 @@ use Rattle.rules.proofs.Demand3.{demand3, reached-opening}
 use Rattle.recording.specs.Opened.{fresh_book, cleared}
 use Rattle.recording.proofs.ClearLaws.{opened-cleared}
 use Rattle.queries.specs.Promises.{LineAnswered}
-use Rattle.queries.proofs.Asks.{line-passed}
-use Rattle.queries.proofs.Answered.{line_refused, periods-refused}
+use Rattle.queries.proofs.Asks.{line_passed}
+use Rattle.queries.proofs.Answered.{line_refused_lem, periods-refused}
 use Rattle.settlement.specs.declared.Reply.{Reply}
 use Rattle.settlement.specs.Replies.{room_in, Replied}
 use Rattle.settlement_book.specs.Numbers.{book_in, numbers_in, line_numbers, line_after, InKrone, no_day, day_after}
@@ -74,10 +75,10 @@ module _ (w : World) (s e : ℕ) where
   pub line_small : (r : LineAnswer) → LineAnswered w s e r → InKrone r
   unfolding line_named
   line_small (LineAnswer.Line q k b) h =
-      let p = line-passed w s e (eqb-true _ _ (sym h.told)) in
+      let p = line_passed w s e (eqb-true _ _ (sym h.told)) in
       let f : b ≡ (line_named (stored w.opening w.position.lines Measure.quantity s e)
       (stored w.opening w.position.lines Measure.amount s e)).billionths =
-      ap (λ (x : LineResult). x.billionths) (h.stored ∙ query-stored w p.0 s e p.1) in
+      ap (λ (x : LineResult). x.billionths) (h.stored ∙ query_stored w p.0 s e p.1) in
       rw f (billionths_lt _)
   line_small (LineAnswer.Refused a) h = omega arith
 
@@ -119,7 +120,7 @@ module _ (w : World) (s e : ℕ) where
   unfolding line_number
   line-no-book a h z n i lent =
       let k : number_of a ≡ line_number w s e = h ∙ sym (book-refused w (λ x. z (h ∙ x)) _) in
-      line-in-numbers (LineAnswer.Refused a) (line_refused w s e (λ x. z (k ∙ x)) a k) n (unfold line_refused in i) lent lent refl
+      line-in-numbers (LineAnswer.Refused a) (line_refused_lem w s e (λ x. z (k ∙ x)) a k) n (unfold line_refused in i) lent lent refl
 
 -- ---- the periods
 
@@ -252,9 +253,9 @@ module _ (w : World) (s owner r : ℕ) (lent out : List ℕ) (h : r ≡ sum_numb
   supplier : (1 ≤ s) × (s ≤ w₀.opening.suppliers)
   supplier = let k = (both (within 1 w₀.opening.suppliers s) _ b).0 in (within_low 1 _ s k, within-high 1 _ s k)
 
-  sum_number : sum_number (reached w₀ vs).world s owner (length lent) ≡ 0
+  sum_number_lem : sum_number (reached w₀ vs).world s owner (length lent) ≡ 0
   unfolding sum_number ask
-  sum_number =
+  sum_number_lem =
       let d = demand3 w₀ a vs in
       let f = d.ledger_fits s owner supplier.0 supplier.1 in
       rw (reached-opening w₀ a vs, b, l, f) (whole-asked (reached w₀ vs).world d.whole 0)
@@ -262,7 +263,7 @@ module _ (w : World) (s owner r : ℕ) (lent out : List ℕ) (h : r ≡ sum_numb
   sum-packed : out ≡ packed (in_ore (owned_sum w₀.opening owner
       (λ e. line (terms_of w₀.opening) (fresh_facts (reached w₀ vs).fresh) Measure.amount s e)))
   unfolding sum_written
-  sum-packed = k ∙ rw (i, sum_number, (demand3 w₀ a vs).ledger_fresh s owner supplier.0 supplier.1)
+  sum-packed = k ∙ rw (i, sum_number_lem, (demand3 w₀ a vs).ledger_fresh s owner supplier.0 supplier.1)
 
 pub packed_in : (w : World) (s owner r : ℕ) (lent out : List ℕ) → r ≡ sum_number w s owner (length lent) → out ≡ sum_written w s owner lent
     → PackedIn w s owner r lent out
@@ -270,7 +271,7 @@ packed_in w s owner r lent out h k = record {
   number = h;
   bytes = k;
   settled = λ w₀ vs a i b l. (
-    h ∙ rw i (sum_number w s owner r lent out h k w₀ vs a i b l),
+    h ∙ rw i (sum_number_lem w s owner r lent out h k w₀ vs a i b l),
     sum-packed w s owner r lent out h k w₀ vs a i b l,
   );
 }

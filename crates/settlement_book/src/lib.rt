@@ -1,14 +1,16 @@
 // Every form for any book and any tables, opening, message and queries: questions 2 to 5, then the form for a book that is well formed; and
-// the functions that the static library exports, over numbers and slices. A book is eleven numbers in the order of `rules::Book`, a
-// message nine in the order of `rules::Fields`; every table is lent. Where the numbers of a book, a message or a line are too many or too
-// few, the answer is question 3, before anything else is asked. A refusal changes nothing that was lent, but that a query for periods then
-// tells that it read none.
-// A name that ends in `_within` is the form for a book that is well formed. Outside this file only the safe Rust wrapper calls these
-// (`library/src/book.rs`), which sees to what they ask; every other caller takes the forms that ask nothing.
+// the functions that the static library `settlement_book_c` exports, over numbers and slices. A book is eleven numbers in the order of
+// `rules::Book`, a message nine in the order of `rules::Fields`; every table is lent. Where the numbers of a book, a message or a line are
+// too many or too few, the answer is question 3, before anything else is asked. A refusal changes nothing that was lent, but that a query
+// for periods then tells that it read none.
+// A name that ends in `_within` is the form for a book that is well formed. Outside this file only the static library's safe Rust wrapper
+// calls these (`library/src/book.rs`), which sees to what they ask; every other caller takes the forms that ask nothing.
+#![tactic(auto)]
+
 ghost use Rattle.std.specs.Prelude.{◌≡◌, length};
 ghost use Rattle.rules.specs.Sizes.{line_size};
 ghost use Rattle.rules.specs.Whole.{Whole};
-ghost use Rattle.rules.specs.Lent.{Lists, world_in, given, lent, lend_data, lend_links, lend_rows, lend_lines, left, was};
+ghost use Rattle.rules.specs.Lent.{Lists, world_in, lend_data, lend_links, lend_rows, lend_lines, given};
 ghost use Rattle.settlement.specs.Replies.{Replied};
 ghost use Rattle.settlement_book.specs.Numbers.{book_size, fields_size, book_in, fields_in, fresh_in};
 ghost use Rattle.settlement_book.specs.Numbers.{SizedBook, SizedMessage, SizedLine};
@@ -33,8 +35,7 @@ use validation::questions::{ask_pair, number};
 
 // Opens the book that the first five numbers name: 0, and the fresh book's numbers; or the question that says no, and nothing is written.
 // Linear in what is lent.
-#[unsafe(no_mangle)]
-pub extern "C" fn settlement_book_open(
+pub fn settlement_book_open(
     book: &mut [u64],
     element_data: &[u8],
     prices: &[i64],
@@ -46,13 +47,18 @@ pub extern "C" fn settlement_book_open(
     lines: &mut [i64],
     sent: &mut [i64],
 ) -> u64
-    ensures opens { let t = lent element_data prices links holders states readings blocks lines sent in
-        let fresh = fresh_in (was book) in
-        SizedBook (was book) → OpensIn (world_in fresh t.entry) (world_in fresh t.exit) (was book) (left book) result }
-    ensures otherwise { let t = lent element_data prices links holders states readings blocks lines sent in
-        (SizedBook (was book) → ⊥) → (result ≡ 3) × (left book ≡ was book) × (t.exit ≡ t.entry) }
-    ensures whole { let t = lent element_data prices links holders states readings blocks lines sent in
-        result ≡ 0 → Whole (world_in (book_in (left book)) t.exit) }
+    ensures opens { let before =
+        given element_data.now prices.now links.old holders.old states.old readings.old blocks.old lines.old sent.old in
+        let after = given element_data.now prices.now links.new holders.new states.new readings.new blocks.new lines.new sent.new in
+        let fresh = fresh_in book.old in
+        SizedBook book.old → OpensIn (world_in fresh before) (world_in fresh after) book.old book.new result }
+    ensures otherwise { let before =
+        given element_data.now prices.now links.old holders.old states.old readings.old blocks.old lines.old sent.old in
+        let after = given element_data.now prices.now links.new holders.new states.new readings.new blocks.new lines.new sent.new in
+        (SizedBook book.old → ⊥) → (result ≡ 3) × (book.new ≡ book.old) × (after ≡ before) }
+    ensures whole { let after =
+        given element_data.now prices.now links.new holders.new states.new readings.new blocks.new lines.new sent.new in
+        result ≡ 0 → Whole (world_in (book_in book.new) after) }
 {
     if book.len() != BOOK_SIZE {
         return number(Answer::WrongLength);
@@ -110,8 +116,9 @@ pub fn message(
     records: &mut [i64],
     fields: Fields,
 ) -> Reply
-    ensures { let t = lent element_data prices links holders states readings blocks lines sent in
-        Replied (world_in book t.entry) (world_in result.book t.exit) fields result (was records) (left records) }
+    ensures { let before = given element_data.now prices.now links.old holders.old states.old readings.old blocks.old lines.old sent.old in
+        let after = given element_data.now prices.now links.new holders.new states.new readings.new blocks.new lines.new sent.new in
+        Replied (world_in book before) (world_in result.book after) fields result records.old records.new }
 {
     let asked = check_book(
         book,
@@ -146,8 +153,7 @@ pub fn message(
 
 // The same in numbers: the question that says no, and everything lent is as it was, the count too; or 0, and how many records stand at the
 // front of the list.
-#[unsafe(no_mangle)]
-pub extern "C" fn settlement_book_message(
+pub fn settlement_book_message(
     book: &mut [u64],
     element_data: &[u8],
     prices: &[i64],
@@ -162,13 +168,17 @@ pub extern "C" fn settlement_book_message(
     fields: &[u64],
     count: &mut u64,
 ) -> u64
-    ensures replies { let t = lent element_data prices links holders states readings blocks lines sent in
-        SizedMessage (was book) (was fields)
-        → RepliesIn (world_in (book_in (was book)) t.entry) (world_in (book_in (left book)) t.exit) (fields_in (was fields))
-        result (was count) (left count) (was records) (left records) }
-    ensures otherwise { let t = lent element_data prices links holders states readings blocks lines sent in
-        (SizedMessage (was book) (was fields) → ⊥)
-        → (result ≡ 3) × (left book ≡ was book) × (t.exit ≡ t.entry) × (left records ≡ was records) × (left count ≡ was count) }
+    ensures replies { let before =
+        given element_data.now prices.now links.old holders.old states.old readings.old blocks.old lines.old sent.old in
+        let after = given element_data.now prices.now links.new holders.new states.new readings.new blocks.new lines.new sent.new in
+        SizedMessage book.old fields.now
+        → RepliesIn (world_in (book_in book.old) before) (world_in (book_in book.new) after) (fields_in fields.now)
+        result count.old count.new records.old records.new }
+    ensures otherwise { let before =
+        given element_data.now prices.now links.old holders.old states.old readings.old blocks.old lines.old sent.old in
+        let after = given element_data.now prices.now links.new holders.new states.new readings.new blocks.new lines.new sent.new in
+        (SizedMessage book.old fields.now → ⊥)
+        → (result ≡ 3) × (book.new ≡ book.old) × (after ≡ before) × (records.new ≡ records.old) × (count.new ≡ count.old) }
 {
     if book.len() != BOOK_SIZE {
         return number(Answer::WrongLength);
@@ -194,8 +204,7 @@ pub extern "C" fn settlement_book_message(
 }
 
 // The same of a book that is well formed, and stays so; for the Rust wrapper alone. Cost: as for `settlement::message`.
-#[unsafe(no_mangle)]
-pub extern "C" fn settlement_book_message_within(
+pub fn settlement_book_message_within(
     book: &mut [u64],
     element_data: &[u8],
     prices: &[i64],
@@ -211,12 +220,16 @@ pub extern "C" fn settlement_book_message_within(
     count: &mut u64,
 ) -> u64
     requires book_len { (length book.old ≡ book_size) × (length fields.now ≡ fields_size) }
-    requires whole_2 { Whole (world_in (book_in book.old) (given element_data prices links holders states readings blocks lines sent)) }
-    ensures replies { let t = lent element_data prices links holders states readings blocks lines sent in
-        RepliesIn (world_in (book_in (was book)) t.entry) (world_in (book_in (left book)) t.exit) (fields_in (was fields))
-        result (was count) (left count) (was records) (left records) }
-    ensures whole { let t = lent element_data prices links holders states readings blocks lines sent in
-        Whole (world_in (book_in (left book)) t.exit) }
+    requires whole_2 { Whole (world_in (book_in book.old)
+        (given element_data.now prices.now links.old holders.old states.old readings.old blocks.old lines.old sent.old)) }
+    ensures replies { let before =
+        given element_data.now prices.now links.old holders.old states.old readings.old blocks.old lines.old sent.old in
+        let after = given element_data.now prices.now links.new holders.new states.new readings.new blocks.new lines.new sent.new in
+        RepliesIn (world_in (book_in book.old) before) (world_in (book_in book.new) after) (fields_in fields.now)
+        result count.old count.new records.old records.new }
+    ensures whole { let after =
+        given element_data.now prices.now links.new holders.new states.new readings.new blocks.new lines.new sent.new in
+        Whole (world_in (book_in book.new) after) }
 {
     let reply = settlement::message(
         book_of(book),
@@ -239,8 +252,7 @@ pub extern "C" fn settlement_book_message_within(
 
 // The quantity, kroner and billionths of a supplier and an element, of a book that is well formed. For the Rust wrapper alone. Constant
 // time.
-#[unsafe(no_mangle)]
-pub extern "C" fn settlement_book_line_within(
+pub fn settlement_book_line_within(
     book: &[u64],
     lines: &[i64],
     supplier: u64,
@@ -250,15 +262,14 @@ pub extern "C" fn settlement_book_line_within(
     requires book_len { (length book.now ≡ book_size) × (length line.old ≡ line_size) }
     requires whole { (o : Lists) × Whole (world_in (book_in book.now) (lend_lines lines.now o)) }
     ensures { (o : Lists) →
-        let w = world_in (book_in (was book)) (lend_lines (was lines) o) in
-        Whole w → LineIn w supplier element result (was line) (left line) }
+        let w = world_in (book_in book.now) (lend_lines lines.now o) in
+        Whole w → LineIn w supplier element result line.old line.new }
 {
     put_line(queries::line(book_of(book), lines, supplier, element), line)
 }
 
 // The same of any book and any tables. Linear in what is lent, for the questions of the book.
-#[unsafe(no_mangle)]
-pub extern "C" fn settlement_book_line(
+pub fn settlement_book_line(
     book: &[u64],
     element_data: &[u8],
     prices: &[i64],
@@ -273,9 +284,10 @@ pub extern "C" fn settlement_book_line(
     element: u64,
     line: &mut [i64],
 ) -> u64
-    ensures answers { let t = lent element_data prices links holders states readings blocks lines sent in
-        SizedLine (was book) (was line) → LineIn (world_in (book_in (was book)) t.entry) supplier element result (was line) (left line) }
-    ensures otherwise { (SizedLine (was book) (was line) → ⊥) → (result ≡ 3) × (left line ≡ was line) }
+    ensures answers { let lists =
+        given element_data.now prices.now links.now holders.now states.now readings.now blocks.now lines.now sent.now in
+        SizedLine book.now line.old → LineIn (world_in (book_in book.now) lists) supplier element result line.old line.new }
+    ensures otherwise { (SizedLine book.now line.old → ⊥) → (result ≡ 3) × (line.new ≡ line.old) }
 {
     if book.len() != BOOK_SIZE {
         return number(Answer::WrongLength);
@@ -307,8 +319,7 @@ pub extern "C" fn settlement_book_line(
 // Where everything recorded for a point and an element stands in the link table, of a book that is well formed: the place of the first row,
 // and how many there are; and how many rows were read, which is 0 where the query is refused. For the Rust wrapper alone. Linear in the
 // rows up to the first beyond the point and element.
-#[unsafe(no_mangle)]
-pub extern "C" fn settlement_book_periods_within(
+pub fn settlement_book_periods_within(
     book: &[u64],
     links: &[u64],
     point: u64,
@@ -320,8 +331,8 @@ pub extern "C" fn settlement_book_periods_within(
     requires book_len { length book.now ≡ book_size }
     requires whole { (o : Lists) × Whole (world_in (book_in book.now) (lend_links links.now o)) }
     ensures { (o : Lists) →
-        let w = world_in (book_in (was book)) (lend_links (was links) o) in
-        Whole w → PeriodsIn w point element result (was place) (left place) (was count) (left count) (left read) }
+        let w = world_in (book_in book.now) (lend_links links.now o) in
+        Whole w → PeriodsIn w point element result place.old place.new count.old count.new read.new }
 {
     let held = book_of(book);
     let asked = number(ask_pair(held, point, element));
@@ -337,8 +348,7 @@ pub extern "C" fn settlement_book_periods_within(
 }
 
 // The same of any book and any tables. Linear in what is lent, for the questions of the book.
-#[unsafe(no_mangle)]
-pub extern "C" fn settlement_book_periods(
+pub fn settlement_book_periods(
     book: &[u64],
     element_data: &[u8],
     prices: &[i64],
@@ -355,11 +365,12 @@ pub extern "C" fn settlement_book_periods(
     count: &mut u64,
     read: &mut u64,
 ) -> u64
-    ensures answers { let t = lent element_data prices links holders states readings blocks lines sent in
-        SizedBook (was book) → PeriodsIn (world_in (book_in (was book)) t.entry) point element result
-        (was place) (left place) (was count) (left count) (left read) }
-    ensures otherwise { (SizedBook (was book) → ⊥)
-        → (result ≡ 3) × (left place ≡ was place) × (left count ≡ was count) × (left read ≡ 0) }
+    ensures answers { let lists =
+        given element_data.now prices.now links.now holders.now states.now readings.now blocks.now lines.now sent.now in
+        SizedBook book.now → PeriodsIn (world_in (book_in book.now) lists) point element result
+        place.old place.new count.old count.new read.new }
+    ensures otherwise { (SizedBook book.now → ⊥)
+        → (result ≡ 3) × (place.new ≡ place.old) × (count.new ≡ count.old) × (read.new ≡ 0) }
 {
     *read = 0;
     if book.len() != BOOK_SIZE {
@@ -388,8 +399,7 @@ pub extern "C" fn settlement_book_periods(
 
 // The earliest day of the month on which the point counts but for a missing holder and has a link, or 36,525 where there is none, of a book
 // that is well formed. For the Rust wrapper alone. Cost: as for `queries::day_without_holder`.
-#[unsafe(no_mangle)]
-pub extern "C" fn settlement_book_day_without_holder_within(
+pub fn settlement_book_day_without_holder_within(
     book: &[u64],
     links: &[u64],
     holders: &[u64],
@@ -400,8 +410,8 @@ pub extern "C" fn settlement_book_day_without_holder_within(
     requires book_len { length book.now ≡ book_size }
     requires whole { (o : Lists) × Whole (world_in (book_in book.now) (lend_rows links.now holders.now states.now o)) }
     ensures { (o : Lists) →
-        let w = world_in (book_in (was book)) (lend_rows (was links) (was holders) (was states) o) in
-        Whole w → DayIn w point result (was day) (left day) }
+        let w = world_in (book_in book.now) (lend_rows links.now holders.now states.now o) in
+        Whole w → DayIn w point result day.old day.new }
 {
     put_day(
         queries::day_without_holder(book_of(book), links, holders, states, point),
@@ -410,8 +420,7 @@ pub extern "C" fn settlement_book_day_without_holder_within(
 }
 
 // The same of any book and any tables. Linear in what is lent, for the questions of the book.
-#[unsafe(no_mangle)]
-pub extern "C" fn settlement_book_day_without_holder(
+pub fn settlement_book_day_without_holder(
     book: &[u64],
     element_data: &[u8],
     prices: &[i64],
@@ -425,9 +434,10 @@ pub extern "C" fn settlement_book_day_without_holder(
     point: u64,
     day: &mut u64,
 ) -> u64
-    ensures answers { let t = lent element_data prices links holders states readings blocks lines sent in
-        SizedBook (was book) → DayIn (world_in (book_in (was book)) t.entry) point result (was day) (left day) }
-    ensures otherwise { (SizedBook (was book) → ⊥) → (result ≡ 3) × (left day ≡ was day) }
+    ensures answers { let lists =
+        given element_data.now prices.now links.now holders.now states.now readings.now blocks.now lines.now sent.now in
+        SizedBook book.now → DayIn (world_in (book_in book.now) lists) point result day.old day.new }
+    ensures otherwise { (SizedBook book.now → ⊥) → (result ≡ 3) × (day.new ≡ day.old) }
 {
     if book.len() != BOOK_SIZE {
         return number(Answer::WrongLength);
@@ -455,8 +465,7 @@ pub extern "C" fn settlement_book_day_without_holder(
 
 // What a supplier owes for the elements of one owner, to the øre, in eight lent bytes as packed decimal, of a book that is well formed. For
 // the Rust wrapper alone. Linear in the elements.
-#[unsafe(no_mangle)]
-pub extern "C" fn settlement_book_packed_sum_within(
+pub fn settlement_book_packed_sum_within(
     book: &[u64],
     element_data: &[u8],
     lines: &[i64],
@@ -467,15 +476,14 @@ pub extern "C" fn settlement_book_packed_sum_within(
     requires book_len { length book.now ≡ book_size }
     requires whole { (o : Lists) × Whole (world_in (book_in book.now) (lend_data element_data.now (lend_lines lines.now o))) }
     ensures { (o : Lists) →
-        let w = world_in (book_in (was book)) (lend_data (was element_data) (lend_lines (was lines) o)) in
-        Whole w → PackedIn w supplier owner result (was bytes) (left bytes) }
+        let w = world_in (book_in book.now) (lend_data element_data.now (lend_lines lines.now o)) in
+        Whole w → PackedIn w supplier owner result bytes.old bytes.new }
 {
     number(packed_sum(book_of(book), element_data, lines, supplier, owner, bytes))
 }
 
 // The same of any book and any tables. Linear in what is lent, for the questions of the book.
-#[unsafe(no_mangle)]
-pub extern "C" fn settlement_book_packed_sum(
+pub fn settlement_book_packed_sum(
     book: &[u64],
     element_data: &[u8],
     prices: &[i64],
@@ -490,9 +498,10 @@ pub extern "C" fn settlement_book_packed_sum(
     owner: u64,
     bytes: &mut [u8],
 ) -> u64
-    ensures answers { let t = lent element_data prices links holders states readings blocks lines sent in
-        SizedBook (was book) → PackedIn (world_in (book_in (was book)) t.entry) supplier owner result (was bytes) (left bytes) }
-    ensures otherwise { (SizedBook (was book) → ⊥) → (result ≡ 3) × (left bytes ≡ was bytes) }
+    ensures answers { let lists =
+        given element_data.now prices.now links.now holders.now states.now readings.now blocks.now lines.now sent.now in
+        SizedBook book.now → PackedIn (world_in (book_in book.now) lists) supplier owner result bytes.old bytes.new }
+    ensures otherwise { (SizedBook book.now → ⊥) → (result ≡ 3) × (bytes.new ≡ bytes.old) }
 {
     if book.len() != BOOK_SIZE {
         return number(Answer::WrongLength);
@@ -517,9 +526,8 @@ pub extern "C" fn settlement_book_packed_sum(
 }
 
 // The amount in øre that lent bytes, of any length and whatever they are, have as packed decimal; or question 24, which writes nothing.
-#[unsafe(no_mangle)]
-pub extern "C" fn settlement_book_read_packed(bytes: &[u8], amount: &mut i64) -> u64
-    ensures { ReadIn (was bytes) result (was amount) (left amount) }
+pub fn settlement_book_read_packed(bytes: &[u8], amount: &mut i64) -> u64
+    ensures { ReadIn bytes.now result amount.old amount.new }
 {
     if is_packed(bytes) {
         *amount = packed_amount(bytes);

@@ -3,7 +3,6 @@ ghost use Rattle.std.specs.Prelude.{◌≡◌, cond, eqb, length};
 ghost use Rattle.rules.specs.Queries.{day_result_number};
 ghost use Rattle.rules.specs.Answers.{line_result, day_result, number_of};
 ghost use Rattle.rules.specs.Sizes.{line_size};
-ghost use Rattle.rules.specs.Lent.{left, was};
 ghost use Rattle.settlement_book.specs.Numbers.{book_size, fields_size, book_in, numbers_in, fields_in};
 ghost use Rattle.settlement_book.specs.Numbers.{line_after, InKrone, day_after};
 
@@ -20,7 +19,7 @@ pub const FIELDS_SIZE: usize = 9;
 
 pub fn book_of(numbers: &[u64]) -> Book
     requires { length numbers.now ≡ book_size }
-    ensures { result ≡ book_in (was numbers) }
+    ensures { result ≡ book_in numbers.now }
 {
     Book {
         year: numbers[0],
@@ -39,7 +38,7 @@ pub fn book_of(numbers: &[u64]) -> Book
 
 pub fn put_book(numbers: &mut [u64], book: Book)
     requires { length numbers.old ≡ book_size }
-    ensures { left numbers ≡ numbers_in book }
+    ensures { numbers.new ≡ numbers_in book }
 {
     numbers[0] = book.year;
     numbers[1] = book.month;
@@ -56,7 +55,7 @@ pub fn put_book(numbers: &mut [u64], book: Book)
 
 pub fn fields_of(numbers: &[u64]) -> Fields
     requires { length numbers.now ≡ fields_size }
-    ensures { result ≡ fields_in (was numbers) }
+    ensures { result ≡ fields_in numbers.now }
 {
     Fields {
         kind: numbers[0],
@@ -77,8 +76,8 @@ pub fn fields_of(numbers: &[u64]) -> Fields
 pub fn put_reply(reply: Reply, book: &mut [u64], count: &mut u64) -> u64
     requires { length book.old ≡ book_size }
     ensures number { result ≡ number_of reply.answer }
-    ensures book { left book ≡ cond (eqb (number_of reply.answer) 0) (numbers_in reply.book) (was book) }
-    ensures count { left count ≡ cond (eqb (number_of reply.answer) 0) reply.records (was count) }
+    ensures book { book.new ≡ cond (eqb (number_of reply.answer) 0) (numbers_in reply.book) book.old }
+    ensures count { count.new ≡ cond (eqb (number_of reply.answer) 0) reply.records count.old }
 {
     let answer = reply.answer;
     let asked = number(answer);
@@ -94,7 +93,7 @@ pub fn put_reply(reply: Reply, book: &mut [u64], count: &mut u64) -> u64
 // The line's three numbers, or the question that says no; a refusal writes nothing.
 pub fn put_line(answer: LineAnswer, line: &mut [i64]) -> u64
     requires { (length line.old ≡ line_size) × InKrone answer }
-    ensures { (result ≡ (line_result answer).number) × (left line ≡ line_after answer (was line)) }
+    ensures { (result ≡ (line_result answer).number) × (line.new ≡ line_after answer line.old) }
 {
     match answer {
         LineAnswer::Line {
@@ -113,7 +112,7 @@ pub fn put_line(answer: LineAnswer, line: &mut [i64]) -> u64
 
 // The day, 36,525 for none, or the question that says no; a refusal writes nothing.
 pub fn put_day(answer: DayAnswer, day: &mut u64) -> u64
-    ensures { (result ≡ day_result_number (day_result answer)) × (left day ≡ day_after (day_result answer) (was day)) }
+    ensures { (result ≡ day_result_number (day_result answer)) × (day.new ≡ day_after (day_result answer) day.old) }
 {
     match answer {
         DayAnswer::Day(found) => {

@@ -9,7 +9,7 @@ ghost use Rattle.rules.specs.Effects.{ask_book};
 ghost use Rattle.rules.specs.Opening.{opening_answer};
 ghost use Rattle.rules.specs.Answers.{number_of};
 ghost use Rattle.rules.specs.Whole.{Limits};
-ghost use Rattle.rules.specs.Lent.{Lists, world_in, opening_in, tables_in, lent, lend_data, lend_elements, lend_tables, was};
+ghost use Rattle.rules.specs.Lent.{Lists, world_in, opening_in, tables_in, lend_data, lend_elements, lend_tables, given};
 ghost use Rattle.settlement_book.specs.Lengths.{lengths_of, Measured};
 
 use calendar::{days_in_month, first_day};
@@ -27,7 +27,7 @@ use validation::questions::number;
 // ---- question 3
 
 // The lengths of all that is lent.
-#[derive(Drop)]
+#[derive(Clone, Copy)]
 pub struct Lengths {
     pub element_data: usize,
     pub prices: usize,
@@ -74,7 +74,7 @@ fn is_sized(book: Book, lengths: Lengths) -> bool
 pub fn check_opening(book: Book, element_data: &[u8], prices: &[i64], lengths: Lengths) -> Answer
     requires { (o : Lists) × (lengths_of (lend_elements element_data.now prices.now o) ≡ lengths) }
     ensures { (o : Lists) →
-        let t = lend_elements (was element_data) (was prices) o in
+        let t = lend_elements element_data.now prices.now o in
         lengths_of t ≡ lengths → number_of result ≡ opening_answer (world_in book t) }
 {
     if both_hold(is_limited(book), rows_fit(book)) {
@@ -96,7 +96,7 @@ pub fn check_opening(book: Book, element_data: &[u8], prices: &[i64], lengths: L
 
 // Every reading is 0 to 9,999,999 Wh. Linear.
 fn readings_right(readings: &[u32]) -> bool
-    ensures { result ≡ all_in (λ x. leb x most_energy) (was readings) }
+    ensures { result ≡ all_in (λ x. leb x most_energy) readings.now }
 {
     let mut i = 0;
     while i < readings.len() {
@@ -111,7 +111,7 @@ fn readings_right(readings: &[u32]) -> bool
 
 // Every block mark is 0 or 1. Linear.
 fn blocks_right(blocks: &[u8]) -> bool
-    ensures { result ≡ all_in (λ x. leb x 1) (was blocks) }
+    ensures { result ≡ all_in (λ x. leb x 1) blocks.now }
 {
     let mut i = 0;
     while i < blocks.len() {
@@ -138,8 +138,8 @@ fn tables_right(
     requires periods_in_bounds { (book.periods ≤ length links.now) × (book.holders ≤ length holders.now)
         × (book.states ≤ length states.now) }
     ensures { (o : Lists) →
-        let t = lend_data (was element_data)
-        (lend_tables (was links) (was holders) (was states) (was readings) (was blocks) o.lines o.sent o) in
+        let t = lend_data element_data.now
+        (lend_tables links.now holders.now states.now readings.now blocks.now o.lines o.sent o) in
         result ≡ tables_right (opening_in book t) (tables_in book t) }
 {
     let periods = book.periods as usize;
@@ -183,8 +183,8 @@ fn is_right(
     requires { (o : Lists) × Measured book (lend_data element_data.now
         (lend_tables links.now holders.now states.now readings.now blocks.now lines.now sent.now o)) }
     ensures { (o : Lists) →
-        let t = lend_data (was element_data)
-        (lend_tables (was links) (was holders) (was states) (was readings) (was blocks) (was lines) (was sent) o) in
+        let t = lend_data element_data.now
+        (lend_tables links.now holders.now states.now readings.now blocks.now lines.now sent.now o) in
         result ≡ question5 (world_in book t) }
 {
     let count = book.suppliers as usize * book.elements as usize;
@@ -214,8 +214,8 @@ pub fn check_book(
     lines: &[i64],
     sent: &[i64],
 ) -> Answer
-    ensures { let t = lent element_data prices links holders states readings blocks lines sent in
-        number_of result ≡ ask_book (world_in book t.entry) 0 }
+    ensures { let lists = given element_data.now prices.now links.now holders.now states.now readings.now blocks.now lines.now sent.now in
+        number_of result ≡ ask_book (world_in book lists) 0 }
 {
     let lengths = Lengths {
         element_data: element_data.len(),

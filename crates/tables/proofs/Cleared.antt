@@ -19,8 +19,8 @@ module _ {A : Type 0} (v : A) where
   more zero (x ∷ d) l = refl
   more (suc n) (x ∷ d) l = ap (λ (t : List A). v ∷ t) (more n d (le_of_suc-le-suc l))
 
-  pub cleared-none : (d : List A) → Cleared v d d 0
-  cleared-none d = record { within = omega arith; long = refl; is = refl }
+  pub cleared_none : (d : List A) → Cleared v d d 0
+  cleared_none d = record { within = omega arith; long = refl; is = refl }
 
   pub cleared_more : (d x : List A) (n : ℕ) → Cleared v d x n → n < length x → Cleared v d (set x n v) (n + 1)
   cleared_more d x n c l =

@@ -18,26 +18,26 @@ use Rattle.tables.specs.Search.{rows_below}
 -- ---- by place
 
 module _ (key : ℕ → ℕ) where
-  pub rising-lower : {j k : ℕ} {ws : List ℕ} → j ≤ k → Rising key k ws → Rising key j ws
-  rising-lower h nil = nil
-  rising-lower {j} h (row {w = w} i m) = let z : j ≤ key w = omega arith in row z m
+  pub rising_lower : {j k : ℕ} {ws : List ℕ} → j ≤ k → Rising key k ws → Rising key j ws
+  rising_lower h nil = nil
+  rising_lower {j} h (row {w = w} i m) = let z : j ≤ key w = omega arith in row z m
 
-  pub rising-from : {k : ℕ} {ws : List ℕ} → Rising key k ws → (i : ℕ) → i < length ws → k ≤ key (get_or ws i 0)
-  rising-from nil i h = absurd (not-suc-le-zero h)
-  rising-from (row j m) zero h = j
-  rising-from (row j m) (suc i) h = let z = rising-from m i (le_of_suc-le-suc h) in omega arith
+  pub rising_from : {k : ℕ} {ws : List ℕ} → Rising key k ws → (i : ℕ) → i < length ws → k ≤ key (get_or ws i 0)
+  rising_from nil i h = absurd (not-suc-le-zero h)
+  rising_from (row j m) zero h = j
+  rising_from (row j m) (suc i) h = let z = rising_from m i (le_of_suc-le-suc h) in omega arith
 
   pub rising_le : {k : ℕ} {ws : List ℕ} → Rising key k ws → (i j : ℕ) → i ≤ j → j < length ws → key (get_or ws i 0) ≤ key (get_or ws j 0)
   rising_le nil i j h l = absurd (not-suc-le-zero l)
   rising_le (row a m) zero zero h l = le_refl _
-  rising_le (row a m) zero (suc j) h l = let z = rising-from m j (le_of_suc-le-suc l) in omega arith
+  rising_le (row a m) zero (suc j) h l = let z = rising_from m j (le_of_suc-le-suc l) in omega arith
   rising_le (row a m) (suc i) zero h l = absurd (not-suc-le-zero h)
   rising_le (row a m) (suc i) (suc j) h l = rising_le m i j (le_of_suc-le-suc h) (le_of_suc-le-suc l)
 
 module _ (xs : List ℕ) (n : ℕ) (fits : n ≤ length xs) where
   -- the rows of a table, read from the table
-  pub rows-le : Rising (λ w. w) 0 (take n xs) → (i j : ℕ) → i ≤ j → j < n → get_or xs i 0 ≤ get_or xs j 0
-  rows-le m i j h l =
+  pub rows_le : Rising (λ w. w) 0 (take n xs) → (i j : ℕ) → i ≤ j → j < n → get_or xs i 0 ≤ get_or xs j 0
+  rows_le m i j h l =
       let z = rising_le (λ w. w) m i j h (omega (arith, length-take-le n xs fits)) in
       rw (get_or-take n xs i 0 (omega arith), get_or-take n xs j 0 l) at z
 
@@ -65,26 +65,26 @@ run_rising done = nil
 run_rising (next {w = w} i j c r) = row zero-le (run_above r w j)
 
 module _ (size : ℕ) (pos : 0 < size) where
-  pub div-le-div : (a b : ℕ) → a ≤ b → a / size ≤ b / size
-  div-le-div a b h = (le-div_iff_mul-le {k = size} {x = a / size} {y = b} pos).1 (le_trans (div-mul-le_self a size) h)
+  pub div_le_div : (a b : ℕ) → a ≤ b → a / size ≤ b / size
+  div_le_div a b h = (le-div_iff_mul-le {k = size} {x = a / size} {y = b} pos).1 (le_trans (div-mul-le_self a size) h)
 
   -- dated values in order by point and day are strictly increasing words
-  values-above : {k : ℕ} {ws : List ℕ} → Rising (λ v. v / size) k ws → (w : ℕ) → w / size < k → Rising (λ v. v) (suc w) ws
-  values-above nil w h = nil
-  values-above (row {w = v} i m) w h =
-      let z : w < v = cases (ltb w v) (λ t. ltb-true w v t) (λ t. let y = div-le-div v w (omega (arith, tests)) in absurd (omega arith)) in
-      row z (values-above m v (omega arith))
+  values_above : {k : ℕ} {ws : List ℕ} → Rising (λ v. v / size) k ws → (w : ℕ) → w / size < k → Rising (λ v. v) (suc w) ws
+  values_above nil w h = nil
+  values_above (row {w = v} i m) w h =
+      let z : w < v = cases (ltb w v) (λ t. ltb-true w v t) (λ t. let y = div_le_div v w (omega (arith, tests)) in absurd (omega arith)) in
+      row z (values_above m v (omega arith))
 
-  pub values-rising : {k : ℕ} {ws : List ℕ} → Rising (λ v. v / size) k ws → Rising (λ v. v) 0 ws
-  values-rising nil = nil
-  values-rising (row {w = w} i m) = row zero-le (values-above m w (omega arith))
+  pub values_rising : {k : ℕ} {ws : List ℕ} → Rising (λ v. v / size) k ws → Rising (λ v. v) 0 ws
+  values_rising nil = nil
+  values_rising (row {w = w} i m) = row zero-le (values_above m w (omega arith))
 
 -- so the rows of each table are in order
 pub link_order : {words : List ℕ} {used : ℕ} → LinkRows words used → OrderedRows words used
 link_order l = record { fits = l.fits; order = run_rising l.run }
 
 pub value-order : {size : ℕ} {words : List ℕ} {used : ℕ} → 0 < size → ValueRows size words used → OrderedRows words used
-value-order {size} pos v = record { fits = v.fits; order = values-rising size pos v.order }
+value-order {size} pos v = record { fits = v.fits; order = values_rising size pos v.order }
 
 -- a greater word has no fewer rows below it
 pub below_mono : (x y : ℕ) → x ≤ y → (ws : List ℕ) → rows_below x ws ≤ rows_below y ws
@@ -113,4 +113,4 @@ above_at x (row {w = w} {ws = ws} a m) zero h l = cases (ltb w x)
     (λ t. omega (arith, tests))
 above_at x (row {w = w} {ws = ws} a m) (suc i) h l = cases (ltb w x)
     (λ t. let h' : suc (rows_below x ws) ≤ suc i = rw t at h in above_at x m i (le_of_suc-le-suc h') (le_of_suc-le-suc l))
-    (λ t. let z = rising-from (λ v. v) m i (le_of_suc-le-suc l) in omega (arith, tests))
+    (λ t. let z = rising_from (λ v. v) m i (le_of_suc-le-suc l) in omega (arith, tests))

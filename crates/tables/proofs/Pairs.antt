@@ -13,29 +13,29 @@ use Rattle.rules.specs.Sizes.{day_room, element_room}
 use Rattle.rules.specs.Rows.{pack_period, period_point, period_element, period_first, period_end, of_pair, stop_rows}
 use Rattle.rules.proofs.Tests.{tests, cases}
 use Rattle.rules.specs.Order.{from, upto, Run, done, next}
-use Rattle.rules.proofs.Words.{spot, first-lt, element-lt, pair_true, pair_is}
-use Rattle.rules.proofs.Clauses.{stop-nil, stop-cons}
+use Rattle.rules.proofs.Words.{spot, first_lt, element_lt, pair_true, pair_is}
+use Rattle.rules.proofs.Clauses.{stop_nil, stop_cons}
 use Rattle.tables.specs.Order.{PairFits, DayFits, LinkRows, ClearBehind}
 use Rattle.tables.specs.Search.{rows_below, RowPlace, without, cut_row, cut_before, Changed}
 use Rattle.tables.proofs.Order.{below_mono}
-use Rattle.tables.proofs.Parts.{take-cut}
+use Rattle.tables.proofs.Parts.{take_cut}
 use Rattle.tables.proofs.RowRange.{Between}
 use Rattle.tables.proofs.Days.{below-day, from-day}
 
 module _ (p e : ℕ) (he : e < element_room) (w : ℕ) where
-  pair-in : (d : ℕ) → spot p e d ≤ from w → from w < spot p (e + 1) 0 → (of_pair p e w ≡ true) × (d ≤ period_first w)
-  pair-in d h k =
-      let a = first-lt w in
-      let b = element-lt w in
+  pair_in : (d : ℕ) → spot p e d ≤ from w → from w < spot p (e + 1) 0 → (of_pair p e w ≡ true) × (d ≤ period_first w)
+  pair_in d h k =
+      let a = first_lt w in
+      let b = element_lt w in
       let i : period_point w ≡ p = omega arith in
       let j : period_element w ≡ e = omega arith in
       (pair_is p e w i j, omega arith)
 
-  pair-past : spot p (e + 1) 0 ≤ from w → of_pair p e w ≡ false
-  pair-past h = cases (of_pair p e w) (λ t. let a = first-lt w in let k = pair_true p e w t in absurd (omega arith)) (λ t. t)
+  pair_past : spot p (e + 1) 0 ≤ from w → of_pair p e w ≡ false
+  pair_past h = cases (of_pair p e w) (λ t. let a = first_lt w in let k = pair_true p e w t in absurd (omega arith)) (λ t. t)
 
-  pair-before : (d : ℕ) → from w < spot p e d → of_pair p e w ≡ true → period_first w < d
-  pair-before d h t = let k = pair_true p e w t in omega arith
+  pair_before : (d : ℕ) → from w < spot p e d → of_pair p e w ≡ true → period_first w < d
+  pair_before d h t = let k = pair_true p e w t in omega arith
 
 -- ---- everything recorded for one point and element
 
@@ -44,30 +44,30 @@ pair_between p e he =
     record {
       order = unfold pack_period in omega arith;
       before = λ w h. cases (of_pair p e w)
-          (λ t. absurd (not-suc-le-zero (pair-before p e he w 0 (below-day p e 0 w h) t)))
+          (λ t. absurd (not-suc-le-zero (pair_before p e he w 0 (below-day p e 0 w h) t)))
           (λ t. t);
-      inside = λ w h l. (pair-in p e he w 0 (from-day p e 0 w h) (below-day p (e + 1) 0 w l)).0;
-      past = λ w h. pair-past p e he w (from-day p (e + 1) 0 w h);
+      inside = λ w h l. (pair_in p e he w 0 (from-day p e 0 w h) (below-day p (e + 1) 0 w l)).0;
+      past = λ w h. pair_past p e he w (from-day p (e + 1) 0 w h);
     }
 
 -- ---- a stop
 
 module _ (p e d : ℕ) (he : e < element_room) (hd : d < day_room) where
-  stop-after : {k : ℕ} {ws : List ℕ} → Run k ws → spot p (e + 1) 0 ≤ k → stop_rows p e d ws ≡ ws
-  stop-after done h = stop-nil p e d
-  stop-after (next {w = w} i j c r) h =
-      rw (stop-cons, pair-past p e he w (omega arith)) (ap (λ (l : List ℕ). w ∷ l) (stop-after r (omega arith)))
+  stop_after : {k : ℕ} {ws : List ℕ} → Run k ws → spot p (e + 1) 0 ≤ k → stop_rows p e d ws ≡ ws
+  stop_after done h = stop_nil p e d
+  stop_after (next {w = w} i j c r) h =
+      rw (stop_cons, pair_past p e he w (omega arith)) (ap (λ (l : List ℕ). w ∷ l) (stop_after r (omega arith)))
 
-  stop-from : {k : ℕ} {ws : List ℕ} → Run k ws → spot p e d ≤ k → stop_rows p e d ws ≡ drop (rows_below (pack_period p (e + 1) 0 0 0) ws) ws
+  stop_from : {k : ℕ} {ws : List ℕ} → Run k ws → spot p e d ≤ k → stop_rows p e d ws ≡ drop (rows_below (pack_period p (e + 1) 0 0 0) ws) ws
   unfolding rows_below
-  stop-from done h = stop-nil p e d
-  stop-from (next {w = w} i j c r) h = cases (ltb w (pack_period p (e + 1) 0 0 0))
+  stop_from done h = stop_nil p e d
+  stop_from (next {w = w} i j c r) h = cases (ltb w (pack_period p (e + 1) 0 0 0))
       (λ t. let f = below-day p (e + 1) 0 w (ltb-true _ _ t) in
-      let o = pair-in p e he w d (omega arith) f in
+      let o = pair_in p e he w d (omega arith) f in
       let l : leb d (period_first w) ≡ true = omega (arith, tests) in
-      rw (stop-cons, t, o.0, l) (stop-from r (omega arith)))
+      rw (stop_cons, t, o.0, l) (stop_from r (omega arith)))
       (λ t. let f = from-day p (e + 1) 0 w (ltb-false _ _ t) in
-      rw (stop-cons, t, pair-past p e he w f) (ap (λ (l : List ℕ). w ∷ l) (stop-after r (omega arith))))
+      rw (stop_cons, t, pair_past p e he w f) (ap (λ (l : List ℕ). w ∷ l) (stop_after r (omega arith))))
 
   -- a row that starts before the day is below the next pair's
   within : (w : ℕ) → from w < spot p e d → ltb w (pack_period p (e + 1) 0 0 0) ≡ true
@@ -78,8 +78,8 @@ module _ (p e d : ℕ) (he : e < element_room) (hd : d < day_room) where
   -- a row that starts before the day is cut, and those of its pair before it are not
   before : (w : ℕ) (ws : List ℕ) → from w < spot p e d → stop_rows p e d (w ∷ ws) ≡ cut_row p e d w ∷ stop_rows p e d ws
   unfolding cut_row
-  before w ws h = rw stop-cons (cases (of_pair p e w)
-      (λ o. let f = pair-before p e he w d h o in
+  before w ws h = rw stop_cons (cases (of_pair p e w)
+      (λ o. let f = pair_before p e he w d h o in
       let l : leb d (period_first w) ≡ false = omega (arith, tests) in
       cases (ltb d (period_end w)) (λ u. rw (o, l, u)) (λ u. rw (o, l, u)))
       (λ o. rw o))
@@ -90,39 +90,39 @@ module _ (p e d : ℕ) (he : e < element_room) (hd : d < day_room) where
       (λ o. let k = pair_true p e w o in let u : ltb d (period_end w) ≡ false = omega (arith, tests) in rw (o, u))
       (λ o. rw o)
 
-  stop-last : (w : ℕ) {ws : List ℕ} → from w < spot p e d → Run (upto w) ws
+  stop_last : (w : ℕ) {k : ℕ} {ws : List ℕ} → from w < spot p e d → Run k ws → upto w ≤ k
       → let from = suc (rows_below (pack_period p e d 0 0) ws) in
       let to = suc (rows_below (pack_period p (e + 1) 0 0 0) ws) in
       stop_rows p e d (w ∷ ws) ≡ without from to (cut_before p e d from (w ∷ ws))
   unfolding rows_below without cut_before
-  stop-last w h done = before w [] h ∙ rw stop-nil
-  stop-last w h (next {w = v} {ws = vs} i j c r) = cases (ltb v (pack_period p e d 0 0))
+  stop_last w h done q = before w [] h ∙ rw stop_nil
+  stop_last w h (next {w = v} {ws = vs} i j c r) q = cases (ltb v (pack_period p e d 0 0))
       (λ t. let f = below-day p e d v (ltb-true _ _ t) in
       let u = within v f in
-      rw (before w (v ∷ vs) h, uncut w (omega arith), t, u) (ap (λ (l : List ℕ). w ∷ l) (stop-last v f r)))
+      rw (before w (v ∷ vs) h, uncut w (omega arith), t, u) (ap (λ (l : List ℕ). w ∷ l) (stop_last v {k = upto v} f r (le_refl _))))
       (λ t. let f = from-day p e d v (ltb-false _ _ t) in
-      rw (before w (v ∷ vs) h, t) (ap (λ (l : List ℕ). cut_row p e d w ∷ l) (stop-from (next {k = from v} {w = v} (le_refl _) j c r) f)))
+      rw (before w (v ∷ vs) h, t) (ap (λ (l : List ℕ). cut_row p e d w ∷ l) (stop_from (next {k = from v} {w = v} (le_refl _) j c r) f)))
 
-  stop-rows : {k : ℕ} {ws : List ℕ} → Run k ws
+  stop_rows_lem : {k : ℕ} {ws : List ℕ} → Run k ws
       → let from = rows_below (pack_period p e d 0 0) ws in
       let to = rows_below (pack_period p (e + 1) 0 0 0) ws in
       stop_rows p e d ws ≡ without from to (cut_before p e d from ws)
   unfolding rows_below without cut_before
-  stop-rows done = stop-nil p e d
-  stop-rows (next {w = w} i j c r) = cases (ltb w (pack_period p e d 0 0))
+  stop_rows_lem done = stop_nil p e d
+  stop_rows_lem (next {w = w} i j c r) = cases (ltb w (pack_period p e d 0 0))
       (λ t. let f = below-day p e d w (ltb-true _ _ t) in
       let u = within w f in
-      rw (t, u) (stop-last w f r))
+      rw (t, u) (stop_last w f r (le_refl _)))
       (λ t. let f = from-day p e d w (ltb-false _ _ t) in
-      rw t (stop-from (next {k = from w} {w = w} (le_refl _) j c r) f))
+      rw t (stop_from (next {k = from w} {w = w} (le_refl _) j c r) f))
 
 -- ---- what the places that the search found say of the whole table
 
 module _ {p e d : ℕ} (pair : PairFits p e) (day : DayFits d) {xs : List ℕ} {n from to : ℕ} (c : ClearBehind xs n)
     (f : RowPlace xs n (pack_period p e d 0 0) from) (t : RowPlace xs n (pack_period p (e + 1) 0 0 0) to) where
-  pub stop-order : (from ≤ to) × (to ≤ n)
+  pub stop_order : (from ≤ to) × (to ≤ n)
   unfolding pack_period
-  stop-order =
+  stop_order =
       let hd = day.day in
       let i = f.is in
       let j = t.is in
@@ -133,7 +133,7 @@ module _ {p e d : ℕ} (pair : PairFits p e) (day : DayFits d) {xs : List ℕ} {
       → Changed (stop_rows p e d (take n xs)) zs m
   stopped rows {ys} y z =
       let hd = day.day in
-      let cut : take n ys ≡ cut_before p e d from (take n xs) = rw y (take-cut p e d xs n from f.within) in
+      let cut : take n ys ≡ cut_before p e d from (take n xs) = rw y (take_cut p e d xs n from f.within) in
       let out : without from to (take n ys) ≡ stop_rows p e d (take n xs)
-      = rw (cut, f.is, t.is) (sym (stop-rows p e d pair.element (omega arith) rows.run)) in
+      = rw (cut, f.is, t.is) (sym (stop_rows_lem p e d pair.element (omega arith) rows.run)) in
       rw out at z

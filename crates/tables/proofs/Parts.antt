@@ -4,7 +4,8 @@ use mathlib.Core.Path.{◌≡◌, refl, sym, ap, ◌∙◌}
 use mathlib.Core.List.{List, [], ◌∷◌, ◌++◌, append-nil, append_assoc}
 use lib.ListN.{length, get_or, take, drop, set, replicate, length-append, length-take, length-drop, length-set, length-replicate}
 use lib.ListN.{take-append-drop, drop_of_length-le, replicate-append-replicate}
-use lib.Seq.{length-take-le, take-take, drop-drop, take_at, drop_at, take_all, take-nil, get_or-drop, get_or-append-add, get_or-take, paste-suc}
+use lib.Seq.{length-take-le, take-take, drop-drop, take_at, drop_at, take_all, take-nil, get_or-drop}
+use lib.Seq.{get_or-append-add, get_or-take, paste-suc}
 use lib.Seq.{set-append_left, drop-set-lt, take-set-lt}
 use native.Mathlib.Omega.{arith}
 use native.Mathlib.Nat.{le_trans, not-suc-le-zero, le_of_suc-le-suc}
@@ -34,15 +35,15 @@ module _ (m : ℕ) where
       let h : length (take m ws) ≤ m = omega (arith, length-take-le m ws (omega arith)) in
       rw (take_all (suc m) ws (omega arith), drop_of_length-le (take m ws) h, append-nil)
 
-  pub lowered-more : (i : ℕ) (ws : List ℕ) → 0 < i → i ≤ m → m < length ws
+  pub lowered_more : (i : ℕ) (ws : List ℕ) → 0 < i → i ≤ m → m < length ws
       → set (lowered m i ws) i (get_or (lowered m i ws) (i - 1) 0) ≡ lowered m (i - 1) ws
-  lowered-more zero ws p h l = absurd (not-suc-le-zero p)
-  lowered-more (suc j) ws p h l = let e : suc j - 1 ≡ j = omega arith in rw e (lowered_suc m j ws h l)
+  lowered_more zero ws p h l = absurd (not-suc-le-zero p)
+  lowered_more (suc j) ws p h l = let e : suc j - 1 ≡ j = omega arith in rw e (lowered_suc m j ws h l)
 
-  pub lowered-done : (i : ℕ) (ws : List ℕ) → i ≤ 0 → 0 < length ws → (w : ℕ) → set (lowered m i ws) 0 w ≡ w ∷ take m ws
-  lowered-done (suc i) ws h l w = absurd (not-suc-le-zero h)
-  lowered-done zero [] h l w = absurd (not-suc-le-zero l)
-  lowered-done zero (x ∷ ws) h l w = refl
+  pub lowered_done : (i : ℕ) (ws : List ℕ) → i ≤ 0 → 0 < length ws → (w : ℕ) → set (lowered m i ws) 0 w ≡ w ∷ take m ws
+  lowered_done (suc i) ws h l w = absurd (not-suc-le-zero h)
+  lowered_done zero [] h l w = absurd (not-suc-le-zero l)
+  lowered_done zero (x ∷ ws) h l w = refl
 
 -- ---- a move up
 
@@ -69,22 +70,22 @@ moved_none gap ws = refl
 
 -- by one place, with a 0 at the end
 module _ (ws : List ℕ) where
-  pub raised-more : (i : ℕ) → i + 1 < length ws → set (moved 1 ws i) i (get_or (moved 1 ws i) (i + 1) 0) ≡ moved 1 ws (i + 1)
-  raised-more i h = let e : 1 + i ≡ i + 1 = omega arith in rw e at (moved_more 1 ws i (omega arith))
+  pub raised_more : (i : ℕ) → i + 1 < length ws → set (moved 1 ws i) i (get_or (moved 1 ws i) (i + 1) 0) ≡ moved 1 ws (i + 1)
+  raised_more i h = let e : 1 + i ≡ i + 1 = omega arith in rw e at (moved_more 1 ws i (omega arith))
 
-  raised-last : (x n : ℕ) (ws : List ℕ) → length ws ≡ n → set (take n ws ++ drop n (x ∷ ws)) n 0 ≡ ws ++ (0 ∷ [])
-  raised-last x zero [] e = refl
-  raised-last x zero (y ∷ ws) e = absurd (omega arith)
-  raised-last x (suc n) [] e = absurd (omega arith)
-  raised-last x (suc n) (y ∷ ws) e = ap (λ (t : List ℕ). y ∷ t) (raised-last y n ws (omega arith))
+  raised_last : (x n : ℕ) (ws : List ℕ) → length ws ≡ n → set (take n ws ++ drop n (x ∷ ws)) n 0 ≡ ws ++ (0 ∷ [])
+  raised_last x zero [] e = refl
+  raised_last x zero (y ∷ ws) e = absurd (omega arith)
+  raised_last x (suc n) [] e = absurd (omega arith)
+  raised_last x (suc n) (y ∷ ws) e = ap (λ (t : List ℕ). y ∷ t) (raised_last y n ws (omega arith))
 
-  pub raised-done : (i : ℕ) → length ws ≡ suc i → set (moved 1 ws i) i 0 ≡ drop 1 ws ++ (0 ∷ [])
+  pub raised_done : (i : ℕ) → length ws ≡ suc i → set (moved 1 ws i) i 0 ≡ drop 1 ws ++ (0 ∷ [])
   unfolding moved
-  raised-done i e = last ws e
+  raised_done i e = last ws e
     where
       last : (ws : List ℕ) → length ws ≡ suc i → set (take i (drop 1 ws) ++ drop i ws) i 0 ≡ drop 1 ws ++ (0 ∷ [])
       last [] e = absurd (omega arith)
-      last (x ∷ ws) e = raised-last x i ws (omega arith)
+      last (x ∷ ws) e = raised_last x i ws (omega arith)
 
 -- ---- zeros
 
@@ -123,8 +124,8 @@ module _ (xs : List ℕ) (n : ℕ) (c : ClearBehind xs n) where
   table_is = sym (take-append-drop n xs) ∙ rw c.clear (sym (words_of (take n xs) n rows_long))
 
   -- a row replaced
-  pub table-set : (i w : ℕ) → i < n → set xs i w ≡ (table_of (set (take n xs) i w)).words
-  table-set i w h =
+  pub table_set : (i w : ℕ) → i < n → set xs i w ≡ (table_of (set (take n xs) i w)).words
+  table_set i w h =
       let l = rows_long in
       let m : i < length (take n xs) = omega arith in
       ap (λ (t : List ℕ). set t i w) (table_is ∙ words_of (take n xs) n l)
@@ -132,11 +133,11 @@ module _ (xs : List ℕ) (n : ℕ) (c : ClearBehind xs n) where
       ∙ sym (words_of (set (take n xs) i w) n (length-set (take n xs) i w ∙ l))
 
   -- a word put in: what came back of the part that was shifted
-  pub table-put : (at w : ℕ) → at ≤ n → n < places
+  pub table_put : (at w : ℕ) → at ≤ n → n < places
       → let lent = mid_of at (n + 1 - at) xs in
       put_mid at (n + 1 - at) xs (w ∷ take (length lent - 1) lent) ≡ (table_of (put_in at w (take n xs))).words
   unfolding put_in
-  table-put at w h k =
+  table_put at w h k =
       let l = c.long in
       let e : n + 1 - at - 1 ≡ n - at = omega arith in
       let z : places - n ≡ suc (places - (n + 1)) = omega arith in
@@ -151,12 +152,12 @@ module _ (xs : List ℕ) (n : ℕ) (c : ClearBehind xs n) where
 
   -- rows taken out: what came back of the part that was closed up, and of the part that was cleared
   module _ (from to : ℕ) (h : from ≤ to) (k : to ≤ n) where
-    pub table-without : (ys : List ℕ)
+    pub table_without : (ys : List ℕ)
         → ys ≡ put_mid from (n - from) xs (moved (to - from) (mid_of from (n - from) xs) (length (mid_of from (n - from) xs) - (to - from)))
         → put_mid (n - (to - from)) (n - (n - (to - from))) ys (replicate (length (mid_of (n - (to - from)) (n - (n - (to - from))) ys)) 0)
         ≡ (table_of (without from to (take n xs))).words
     unfolding without moved
-    table-without ys e =
+    table_without ys e =
         let rows = take n xs in
         let gap = to - from in
         let low : gap ≤ n = omega arith in
@@ -191,10 +192,10 @@ module _ (xs : List ℕ) (n : ℕ) (c : ClearBehind xs n) where
         (sym (words_of (take from rows ++ drop to rows) (n - gap) kept))
 
   -- one row taken out: what came back of the part that was closed up
-  pub table-without-one : (from to : ℕ) → to ≡ from + 1 → to ≤ n
+  pub table_without_one : (from to : ℕ) → to ≡ from + 1 → to ≤ n
       → put_mid from (n - from) xs (drop 1 (mid_of from (n - from) xs) ++ (0 ∷ [])) ≡ (table_of (without from to (take n xs))).words
   unfolding without
-  table-without-one from to e h =
+  table_without_one from to e h =
       let rows = take n xs in
       let l = c.long in
       let m = c.count in
@@ -247,12 +248,12 @@ none_out xs n c from to e =
 -- ---- the row before a place, cut
 
 module _ (p e d : ℕ) (xs : List ℕ) where
-  pub take-cut : (n at : ℕ) → at ≤ n → take n (cut_before p e d at xs) ≡ cut_before p e d at (take n xs)
+  pub take_cut : (n at : ℕ) → at ≤ n → take n (cut_before p e d at xs) ≡ cut_before p e d at (take n xs)
   unfolding cut_before
-  take-cut n zero h = refl
-  take-cut n (suc i) h = rw (get_or-take n xs i 0 h) (take-set-lt n xs i _ h)
+  take_cut n zero h = refl
+  take_cut n (suc i) h = rw (get_or-take n xs i 0 h) (take-set-lt n xs i _ h)
 
-  pub clear-cut : (n at : ℕ) → at ≤ n → ClearBehind xs n → ClearBehind (cut_before p e d at xs) n
+  pub clear_cut : (n at : ℕ) → at ≤ n → ClearBehind xs n → ClearBehind (cut_before p e d at xs) n
   unfolding cut_before
-  clear-cut n zero h c = c
-  clear-cut n (suc i) h c = clear-set xs n c i _ h
+  clear_cut n zero h c = c
+  clear_cut n (suc i) h c = clear-set xs n c i _ h

@@ -19,10 +19,10 @@ use Rattle.rules.specs.WellFormed.{period_right, apart, value_right, earlier, ta
 use Rattle.rules.proofs.Tests.{tests, cases, both}
 use Rattle.rules.specs.Whole.{Whole}
 use Rattle.rules.specs.Lent.{Lists, no_lists, world_in, opening_in, lend_data}
-use Rattle.rules.proofs.Parts.{lengths, formed, table-ordered, links-run}
+use Rattle.rules.proofs.Parts.{lengths, formed, table_ordered, links-run}
 use Rattle.tables.specs.Order.{Rising, nil, row, LinkRows, ValueRows, ClearBehind, TableRows}
 use Rattle.tables.specs.Tests.{is_zero, row_fits_at, kind_allows, days_right}
-use Rattle.tables.proofs.Order.{rising-lower}
+use Rattle.tables.proofs.Order.{rising_lower}
 
 -- ---- by place
 
@@ -46,64 +46,65 @@ module _ (ok : ℕ → Bool) where
   in_all [] h = refl
   in_all (x ∷ xs) h = rw (h 0 (omega arith)) (in_all xs (λ i l. h (suc i) (suc-le-suc l)))
 
-  pub in-at : (ws : List ℕ) → all_in ok ws ≡ true → (i : ℕ) → i < length ws → ok (get_or ws i 0) ≡ true
+  pub in_at : (ws : List ℕ) → all_in ok ws ≡ true → (i : ℕ) → i < length ws → ok (get_or ws i 0) ≡ true
   unfolding all_in
-  in-at [] a i l = absurd (not-suc-le-zero l)
-  in-at (x ∷ xs) a zero l = (both (ok x) _ a).0
-  in-at (x ∷ xs) a (suc i) l = in-at xs (both (ok x) _ a).1 i (le_of_suc-le-suc l)
+  in_at [] a i l = absurd (not-suc-le-zero l)
+  in_at (x ∷ xs) a zero l = (both (ok x) _ a).0
+  in_at (x ∷ xs) a (suc i) l = in_at xs (both (ok x) _ a).1 i (le_of_suc-le-suc l)
 
-  pub in-not : (ws : List ℕ) (i : ℕ) → i < length ws → ok (get_or ws i 0) ≡ false → all_in ok ws ≡ false
-  in-not ws i l h = cases (all_in ok ws) (λ t. absurd (false≢true (sym h ∙ in-at ws t i l))) (λ t. t)
+  pub in_not : (ws : List ℕ) (i : ℕ) → i < length ws → ok (get_or ws i 0) ≡ false → all_in ok ws ≡ false
+  in_not ws i l h = cases (all_in ok ws) (λ t. absurd (false≢true (sym h ∙ in_at ws t i l))) (λ t. t)
 
 module _ (order : ℕ → ℕ → Bool) (right : ℕ → Bool) (xs : List ℕ) (n : ℕ) (fits : n ≤ length xs) where
   long : length (take n xs) ≡ n
   long = length-take-le n xs fits
 
-  fit-right : (i : ℕ) → row_fits_at order right xs i ≡ true → right (get_or xs i 0) ≡ true
+  fit_right : (i : ℕ) → row_fits_at order right xs i ≡ true → right (get_or xs i 0) ≡ true
   unfolding row_fits_at
-  fit-right i h = (both (right (get_or xs i 0)) _ h).0
+  fit_right i h = (both (right (get_or xs i 0)) _ h).0
 
-  fit-order : (i : ℕ) → row_fits_at order right xs (suc i) ≡ true → order (get_or xs i 0) (get_or xs (suc i) 0) ≡ true
+  fit_order : (i : ℕ) → row_fits_at order right xs (suc i) ≡ true → order (get_or xs i 0) (get_or xs (suc i) 0) ≡ true
   unfolding row_fits_at
-  fit-order i h =
+  fit_order i h =
       let k = (both (right (get_or xs (suc i) 0)) _ h).1 in
       let e : suc i - 1 ≡ i = omega arith in
       let z : eqb (suc i) 0 ≡ false = omega (arith, tests) in
       rw (z, e) at k
 
   -- each row fits: what is left is whether zeros follow
-  pub table-rest : ((i : ℕ) → i < n → row_fits_at order right xs i ≡ true)
+  pub table_rest : ((i : ℕ) → i < n → row_fits_at order right xs i ≡ true)
       → all_in is_zero (drop n xs) ≡ table_right order right (record { used = n; words = xs })
   unfolding table_right rows_of is_zero
-  table-rest h =
+  table_rest h =
       let l = long in
       let c : chained order (take n xs) ≡ true = chained-all order (take n xs) (λ i k.
-      rw (get_or-take n xs i 0 (omega arith), get_or-take n xs (suc i) 0 (omega arith)) (fit-order i (h (suc i) (omega arith)))) in
+      rw (get_or-take n xs i 0 (omega arith), get_or-take n xs (suc i) 0 (omega arith)) (fit_order i (h (suc i) (omega arith)))) in
       let a : all_in right (take n xs) ≡ true = in_all right (take n xs) (λ i k.
-      rw (get_or-take n xs i 0 (omega arith)) (fit-right i (h i (omega arith)))) in
+      rw (get_or-take n xs i 0 (omega arith)) (fit_right i (h i (omega arith)))) in
       rw (c, a)
 
   fit_at : chained order (take n xs) ≡ true → all_in right (take n xs) ≡ true → (i : ℕ) → i < n → row_fits_at order right xs i ≡ true
   unfolding row_fits_at
   fit_at c a zero h =
       let l = long in
-      let r = in-at right (take n xs) a 0 (omega arith) in
+      let r = in_at right (take n xs) a 0 (omega arith) in
       let r' : right (get_or xs 0 0) ≡ true = rw (get_or-take n xs 0 0 h) at r in
       rw r'
   fit_at c a (suc i) h =
       let l = long in
-      let r = in-at right (take n xs) a (suc i) (omega arith) in
+      let r = in_at right (take n xs) a (suc i) (omega arith) in
       let r' : right (get_or xs (suc i) 0) ≡ true = rw (get_or-take n xs (suc i) 0 h) at r in
       let o = chained-at order (take n xs) c i (omega arith) in
-      let o' : order (get_or xs i 0) (get_or xs (suc i) 0) ≡ true = rw (get_or-take n xs i 0 (omega arith), get_or-take n xs (suc i) 0 h) at o in
+      let o' : order (get_or xs i 0) (get_or xs (suc i) 0) ≡ true =
+      rw (get_or-take n xs i 0 (omega arith), get_or-take n xs (suc i) 0 h) at o in
       let e : suc i - 1 ≡ i = omega arith in
       let z : eqb (suc i) 0 ≡ false = omega (arith, tests) in
       rw (r', z, e, o')
 
   -- one does not: the table is not right
-  pub table-not : (i : ℕ) → i < n → row_fits_at order right xs i ≡ false → false ≡ table_right order right (record { used = n; words = xs })
+  pub table_not : (i : ℕ) → i < n → row_fits_at order right xs i ≡ false → false ≡ table_right order right (record { used = n; words = xs })
   unfolding table_right rows_of
-  table-not i h f = cases (chained order (take n xs))
+  table_not i h f = cases (chained order (take n xs))
       (λ c. cases (all_in right (take n xs))
       (λ a. absurd (false≢true (sym f ∙ fit_at c a i h)))
       (λ a. rw (c, a)))
@@ -163,24 +164,24 @@ module _ (xs : List ℕ) (n : ℕ) (l : length xs ≡ places) (k : n ≤ places)
   links-rows o h = record { fits = rw l k; run = unfold rows_of in links-run o (record { used = n; words = xs }) h }
 
 module _ (size : ℕ) where
-  earlier-rising : (r : ℕ) (rs : List ℕ) → chained (earlier size) (r ∷ rs) ≡ true → Rising (λ w. w / size) (r / size) (r ∷ rs)
+  earlier_rising : (r : ℕ) (rs : List ℕ) → chained (earlier size) (r ∷ rs) ≡ true → Rising (λ w. w / size) (r / size) (r ∷ rs)
   unfolding chained earlier
-  earlier-rising r [] c = row (le_refl _) nil
-  earlier-rising r (s ∷ rs) c =
+  earlier_rising r [] c = row (le_refl _) nil
+  earlier_rising r (s ∷ rs) c =
       let k = both (earlier size r s) _ c in
-      row (le_refl _) (rising-lower (λ w. w / size) (ltb-true _ _ k.0) (earlier-rising s rs k.1))
+      row (le_refl _) (rising_lower (λ w. w / size) (ltb-true _ _ k.0) (earlier_rising s rs k.1))
 
-  chained-rising : (rs : List ℕ) → chained (earlier size) rs ≡ true → Rising (λ w. w / size) 0 rs
-  chained-rising [] c = nil
-  chained-rising (r ∷ rs) c = rising-lower (λ w. w / size) {j = 0} {k = r / size} zero-le (earlier-rising r rs c)
+  chained_rising : (rs : List ℕ) → chained (earlier size) rs ≡ true → Rising (λ w. w / size) 0 rs
+  chained_rising [] c = nil
+  chained_rising (r ∷ rs) c = rising_lower (λ w. w / size) {j = 0} {k = r / size} zero-le (earlier_rising r rs c)
 
 module _ (xs : List ℕ) (n : ℕ) (l : length xs ≡ places) (k : n ≤ places) (o : Opening) where
   value-rows : (size : ℕ) (right : ℕ → Bool) → table_right (earlier size) right (record { used = n; words = xs }) ≡ true
       → ValueRows size xs n
   value-rows size right h =
       let ordered : chained (earlier size) (take n xs) ≡ true
-      = unfold rows_of in table-ordered (earlier size) right (record { used = n; words = xs }) h in
-      record { fits = rw l k; order = chained-rising size (take n xs) ordered }
+      = unfold rows_of in table_ordered (earlier size) right (record { used = n; words = xs }) h in
+      record { fits = rw l k; order = chained_rising size (take n xs) ordered }
 
   pub holders-rows : holders_right o (record { used = n; words = xs }) ≡ true → ValueRows holder_size xs n
   unfolding holders_right

@@ -3,16 +3,16 @@ use Prim.Native.Nat.{ℕ, suc, ◌+◌, ◌*◌, ◌/◌, ◌≤◌}
 use mathlib.Core.Path.{◌≡◌, refl}
 use mathlib.Core.Bool.{true, false, ◌&&◌}
 use mathlib.Core.List.{List, [], ◌∷◌}
-use mathlib.Core.Option.{some}
 use lib.Dec.{eqb}
 use native.Mathlib.Omega.{arith}
 use native.Mathlib.Nat.{le_refl}
 use Rattle.rules.specs.Sizes.{first_unit, day_room, element_room}
-use Rattle.rules.specs.Rows.{period_point, period_element, period_first, of_pair, starts_on, next_start, value_point, value_first, recorded_on}
+use Rattle.rules.specs.Rows.{period_point, period_element, period_first, of_pair, starts_on, next_start, value_point}
+use Rattle.rules.specs.Rows.{value_first, recorded_on}
 use Rattle.rules.proofs.Tests.{tests, cases}
 use Rattle.rules.specs.Order.{upto, Run, done, next}
-use Rattle.rules.proofs.Words.{from_is, element-lt, pair_true, pair_false}
-use Rattle.rules.proofs.Clauses.{starts-nil, starts-cons, next-nil, next-cons, recorded-nil, recorded-cons}
+use Rattle.rules.proofs.Words.{from_is, element_lt, pair_true, pair_false}
+use Rattle.rules.proofs.Clauses.{starts_nil, starts_cons, next-nil, next-cons, recorded_nil, recorded_cons}
 use Rattle.tables.specs.Order.{Rising, nil, row, LinkRows, ValueRows, PairFits, PointFits}
 use Rattle.tables.specs.Search.{next_recorded, is_given}
 
@@ -23,7 +23,7 @@ run_dated {j} h (next {w = w} a b c r) =
     let f = from_is w in
     let z : j ≤ w / first_unit = omega arith in
     let y : suc (w / first_unit) ≤ upto w = omega arith in
-    row {w = w} z (run_dated y r)
+    row {w = w} z (run_dated {j = suc (w / first_unit)} y r)
 
 pub link_values : {xs : List ℕ} {n : ℕ} → LinkRows xs n → ValueRows first_unit xs n
 link_values l = record { fits = l.fits; order = run_dated (le_refl _) l.run }
@@ -32,12 +32,13 @@ module _ {p e : ℕ} (fits : PairFits p e) where
   pub pair_fits : PointFits first_unit (p * element_room + e)
   pair_fits = let h = fits.point in let k = fits.element in record { some = omega arith; point = omega arith }
 
-  pair-point : (w : ℕ) → of_pair p e w ≡ eqb (value_point first_unit w) (p * element_room + e)
+  pair_point : (w : ℕ) → of_pair p e w ≡ eqb (value_point first_unit w) (p * element_room + e)
   unfolding value_point
-  pair-point w =
+  pair_point w =
       let f = from_is w in
-      let l = element-lt w in
-      let k : w / first_unit / day_room ≡ period_point w * element_room + period_element w = unfold period_point period_element in omega arith in
+      let l = element_lt w in
+      let k : w / first_unit / day_room ≡ period_point w * element_room + period_element w = unfold period_point period_element in
+      omega arith in
       cases (of_pair p e w)
       (λ t. let m = pair_true p e w t in
       let z : eqb (w / first_unit / day_room) (p * element_room + e) ≡ true = omega (arith, tests) in
@@ -50,13 +51,13 @@ module _ {p e : ℕ} (fits : PairFits p e) where
   unfolding period_first value_first
   same_first w = refl
 
-  pub next-dated : (d : ℕ) (ws : List ℕ) → next_start ws p e d ≡ next_recorded first_unit ws (p * element_room + e) d
+  pub next_dated : (d : ℕ) (ws : List ℕ) → next_start ws p e d ≡ next_recorded first_unit ws (p * element_room + e) d
   unfolding next_recorded
-  next-dated d [] = next-nil p e d
-  next-dated d (w ∷ ws) = rw (next-cons, pair-point w, same_first w, next-dated d ws)
+  next_dated d [] = next-nil p e d
+  next_dated d (w ∷ ws) = rw (next-cons, pair_point w, same_first w, next_dated d ws)
 
-  pub starts-dated : (d : ℕ) (ws : List ℕ) → starts_on ws p e d ≡ is_given (recorded_on first_unit ws (p * element_room + e) d)
+  pub starts_dated : (d : ℕ) (ws : List ℕ) → starts_on ws p e d ≡ is_given (recorded_on first_unit ws (p * element_room + e) d)
   unfolding is_given
-  starts-dated d [] = rw (starts-nil, recorded-nil)
-  starts-dated d (w ∷ ws) = rw (starts-cons, recorded-cons, pair-point w, same_first w, starts-dated d ws)
+  starts_dated d [] = rw (starts_nil, recorded_nil)
+  starts_dated d (w ∷ ws) = rw (starts_cons, recorded_cons, pair_point w, same_first w, starts_dated d ws)
       (cases (eqb (value_point first_unit w) (p * element_room + e) && eqb (value_first first_unit w) d) (λ t. rw t) (λ t. rw t))

@@ -15,12 +15,12 @@ use Rattle.rules.specs.Sizes.{day_room, end_of_days}
 use Rattle.rules.specs.Basics.{latest, or_else}
 use Rattle.rules.specs.Rows.{pack_value, value_point, value_first, value_of, recorded_on, record_row}
 use Rattle.rules.proofs.Tests.{tests, cases, both}
-use Rattle.rules.proofs.Clauses.{dated, recorded-nil, recorded-cons, record-nil, record-cons}
+use Rattle.rules.proofs.Clauses.{dated, recorded_nil, recorded_cons, record_nil, record_cons}
 use Rattle.rules.specs.World.{table_of}
 use Rattle.tables.specs.Order.{Rising, nil, row, PointFits, ValueRows, ClearBehind}
 use Rattle.tables.specs.Search.{rows_below, RowPlace, row_from, next_recorded, is_given, put_in, Changed}
-use Rattle.tables.proofs.Parts.{rows_long, table-set, length_put}
-use Rattle.tables.proofs.Order.{rising-from, rising_le, below_at, above_at, div-le-div, values-rising}
+use Rattle.tables.proofs.Parts.{rows_long, table_set, length_put}
+use Rattle.tables.proofs.Order.{rising_from, rising_le, below_at, above_at, div_le_div, values_rising}
 
 -- ---- one word
 
@@ -38,15 +38,18 @@ module _ {size p : ℕ} (f : PointFits size p) where
 
 module _ (size : ℕ) where
   -- a row's point and day as one number
-  pub key-parts : (w : ℕ) → (w / size ≡ value_point size w * day_room + value_first size w) × (value_first size w < day_room)
+  pub key_parts : (w : ℕ) → (w / size ≡ value_point size w * day_room + value_first size w) × (value_first size w < day_room)
   unfolding value_point value_first
-  key-parts w = (omega arith, omega arith)
+  key_parts w = (omega arith, omega arith)
 
-  pub dated-key : (p d w : ℕ) → dated size p d w ≡ true → w / size ≡ p * day_room + d
-  dated-key p d w h = let k = both (eqb (value_point size w) p) (eqb (value_first size w) d) h in let m = key-parts w in omega (arith, tests)
+  pub dated_key : (p d w : ℕ) → dated size p d w ≡ true → w / size ≡ p * day_room + d
+  dated_key p d w h =
+      let k = both (eqb (value_point size w) p) (eqb (value_first size w) d) h in
+      let m = key_parts w in
+      omega (arith, tests)
 
-  pub not-dated : (p d w : ℕ) → (w / size ≡ p * day_room + d → ⊥) → dated size p d w ≡ false
-  not-dated p d w h = cases (dated size p d w) (λ t. absurd (h (dated-key p d w t))) (λ t. t)
+  pub not_dated : (p d w : ℕ) → (w / size ≡ p * day_room + d → ⊥) → dated size p d w ≡ false
+  not_dated p d w h = cases (dated size p d w) (λ t. absurd (h (dated_key p d w t))) (λ t. t)
 
   module _ (pos : 0 < size) where
     below-value : (p d w : ℕ) → w < pack_value size p d 0 → w / size < p * day_room + d
@@ -62,7 +65,7 @@ past_all : (size p : ℕ) → PointFits size p → eqb (value_point size 1844674
 past_all size p f =
     let k : (p + 1) * day_room ≤ 18446744073709551615 / size
     = (le-div_iff_mul-le {k = size} {x = (p + 1) * day_room} {y = 18446744073709551615} f.some).1 f.point in
-    let m = key-parts size 18446744073709551615 in
+    let m = key_parts size 18446744073709551615 in
     omega (arith, tests)
 
 -- ---- the next recorded day
@@ -75,13 +78,14 @@ module _ (size p d : ℕ) where
       (λ t. rw t (omega arith))
       (λ t. rw t h)
 
-  next_low : (f : ℕ) {k : ℕ} {ws : List ℕ} → Rising (λ w. w / size) k ws → p * day_room + f ≤ k → min f end_of_days ≤ next_recorded size ws p d
+  next_low : (f : ℕ) {k : ℕ} {ws : List ℕ} → Rising (λ w. w / size) k ws → p * day_room + f ≤ k
+      → min f end_of_days ≤ next_recorded size ws p d
   unfolding next_recorded
   next_low f nil h = omega arith
   next_low f (row {w = w} i m) h = let ih = next_low f m (omega arith) in
       cases (eqb (value_point size w) p && ltb d (value_first size w))
       (λ t. let b = both (eqb (value_point size w) p) (ltb d (value_first size w)) t in
-      let k = key-parts size w in
+      let k = key_parts size w in
       let z : f ≤ value_first size w = omega (arith, tests) in
       rw t (omega arith))
       (λ t. rw t ih)
@@ -91,7 +95,7 @@ module _ (size p d : ℕ) where
       next_recorded size ws p d ≡ cond (eqb (value_point size r) p) (min (value_first size r) end_of_days) end_of_days
   unfolding next_recorded row_from
   next-from f nil = rw (past_all size p f)
-  next-from f (row {w = w} {ws = ws} i m) = let k = key-parts size w in cases (ltb w (pack_value size p (d + 1) 0))
+  next-from f (row {w = w} {ws = ws} i m) = let k = key_parts size w in cases (ltb w (pack_value size p (d + 1) 0))
       (λ t. let b = below-value size f.some p (d + 1) w (ltb-true _ _ t) in
       let n : (eqb (value_point size w) p && ltb d (value_first size w)) ≡ false = cases (eqb (value_point size w) p)
       (λ u. let z : ltb d (value_first size w) ≡ false = omega (arith, tests) in rw (u, z))
@@ -107,29 +111,29 @@ module _ (size p d : ℕ) where
       rw (t, u) (omega arith)))
 
   -- the row that the search found tells it
-  pub next-found : PointFits size p → {xs : List ℕ} {n : ℕ} → ValueRows size xs n
+  pub next_found : PointFits size p → {xs : List ℕ} {n : ℕ} → ValueRows size xs n
       → (r : ℕ) → r ≡ row_from (pack_value size p (d + 1) 0) (take n xs)
       → next_recorded size (take n xs) p d ≡ cond (eqb (value_point size r) p) (min (value_first size r) end_of_days) end_of_days
-  next-found f v r e = rw e (next-from f v.order)
+  next_found f v r e = rw e (next-from f v.order)
 
 -- ---- a value recorded that very day
 
 module _ (size p d : ℕ) where
-  pub recorded-later : {k : ℕ} {ws : List ℕ} → Rising (λ w. w / size) k ws → p * day_room + d < k → recorded_on size ws p d ≡ none
-  recorded-later nil h = recorded-nil size p d
-  recorded-later (row {w = w} i m) h = rw (recorded-cons, not-dated size p d w (λ e. omega arith)) (recorded-later m (omega arith))
+  pub recorded_later : {k : ℕ} {ws : List ℕ} → Rising (λ w. w / size) k ws → p * day_room + d < k → recorded_on size ws p d ≡ none
+  recorded_later nil h = recorded_nil size p d
+  recorded_later (row {w = w} i m) h = rw (recorded_cons, not_dated size p d w (λ e. omega arith)) (recorded_later m (omega arith))
 
-  recorded-from : PointFits size p → {k : ℕ} {ws : List ℕ} → Rising (λ w. w / size) k ws
+  recorded_from : PointFits size p → {k : ℕ} {ws : List ℕ} → Rising (λ w. w / size) k ws
       → let r = row_from (pack_value size p d 0) ws in
       is_given (recorded_on size ws p d) ≡ cond (eqb (value_point size r) p) (eqb (value_first size r) d) false
   unfolding is_given row_from
-  recorded-from f nil = rw (recorded-nil, past_all size p f)
-  recorded-from f (row {w = w} {ws = ws} i m) = cases (ltb w (pack_value size p d 0))
+  recorded_from f nil = rw (recorded_nil, past_all size p f)
+  recorded_from f (row {w = w} {ws = ws} i m) = cases (ltb w (pack_value size p d 0))
       (λ t. let b = below-value size f.some p d w (ltb-true _ _ t) in
-      rw (recorded-cons, not-dated size p d w (λ e. omega arith), t) (recorded-from f m))
+      rw (recorded_cons, not_dated size p d w (λ e. omega arith), t) (recorded_from f m))
       (λ t. let b = from-value size f.some p d w (ltb-false _ _ t) in
-      let l = recorded-later m (omega arith) in
-      rw (recorded-cons, t) (cases (eqb (value_point size w) p)
+      let l = recorded_later m (omega arith) in
+      rw (recorded_cons, t) (cases (eqb (value_point size w) p)
       (λ u. cases (eqb (value_first size w) d) (λ v. rw (u, v)) (λ v. rw (u, v, l)))
       (λ u. rw (u, l))))
 
@@ -137,15 +141,15 @@ module _ (size p d : ℕ) where
   pub recorded_found : PointFits size p → {xs : List ℕ} {n : ℕ} → ValueRows size xs n
       → (r : ℕ) → r ≡ row_from (pack_value size p d 0) (take n xs)
       → is_given (recorded_on size (take n xs) p d) ≡ cond (eqb (value_point size r) p) (eqb (value_first size r) d) false
-  recorded_found f v r e = rw e (recorded-from f v.order)
+  recorded_found f v r e = rw e (recorded_from f v.order)
 
 -- ---- the value in force
 
 module _ (f : ℕ → Option ℕ) where
-  latest-empty : (d : ℕ) → ((i : ℕ) → i ≤ d → f i ≡ none) → latest f d ≡ 0
+  latest_empty : (d : ℕ) → ((i : ℕ) → i ≤ d → f i ≡ none) → latest f d ≡ 0
   unfolding latest or_else
-  latest-empty zero h = rw (h 0 (le_refl _))
-  latest-empty (suc d) h = rw (h (suc d) (le_refl _)) (latest-empty d (λ i k. h i (omega arith)))
+  latest_empty zero h = rw (h 0 (le_refl _))
+  latest_empty (suc d) h = rw (h (suc d) (le_refl _)) (latest_empty d (λ i k. h i (omega arith)))
 
   latest-at : (a v d : ℕ) → a ≤ d → f a ≡ some v → ((i : ℕ) → a < i → i ≤ d → f i ≡ none) → latest f d ≡ v
   unfolding latest or_else
@@ -155,54 +159,54 @@ module _ (f : ℕ → Option ℕ) where
       (λ t. rw (h (suc d) (omega (arith, tests)) (le_refl _)) (latest-at a v d (omega (arith, tests)) e (λ i k m. h i k (omega arith))))
 
 module _ (size p : ℕ) where
-  recorded-none : (d : ℕ) (ws : List ℕ) → ((i : ℕ) → i < length ws → get_or ws i 0 / size ≡ p * day_room + d → ⊥)
+  recorded_none : (d : ℕ) (ws : List ℕ) → ((i : ℕ) → i < length ws → get_or ws i 0 / size ≡ p * day_room + d → ⊥)
       → recorded_on size ws p d ≡ none
-  recorded-none d [] h = recorded-nil size p d
-  recorded-none d (w ∷ ws) h =
-      rw (recorded-cons, not-dated size p d w (h 0 (omega arith))) (recorded-none d ws (λ i l. h (suc i) (suc-le-suc l)))
+  recorded_none d [] h = recorded_nil size p d
+  recorded_none d (w ∷ ws) h =
+      rw (recorded_cons, not_dated size p d w (h 0 (omega arith))) (recorded_none d ws (λ i l. h (suc i) (suc-le-suc l)))
 
-  recorded-at : {k : ℕ} {ws : List ℕ} → Rising (λ w. w / size) k ws → (j : ℕ) → j < length ws → value_point size (get_or ws j 0) ≡ p
+  recorded_at : {k : ℕ} {ws : List ℕ} → Rising (λ w. w / size) k ws → (j : ℕ) → j < length ws → value_point size (get_or ws j 0) ≡ p
       → recorded_on size ws p (value_first size (get_or ws j 0)) ≡ some (value_of size (get_or ws j 0))
-  recorded-at nil j l e = absurd (not-suc-le-zero l)
-  recorded-at (row {w = w} i m) zero l e = rw (recorded-cons, eq-eqb _ _ e, eq-eqb (value_first size w) (value_first size w) refl)
-  recorded-at (row {w = w} {ws = ws} i m) (suc j) l e =
-      let h = rising-from (λ v. v / size) m j (le_of_suc-le-suc l) in
-      let k = key-parts size (get_or ws j 0) in
-      rw (recorded-cons, not-dated size p (value_first size (get_or ws j 0)) w (λ z. omega arith)) (recorded-at m j (le_of_suc-le-suc l) e)
+  recorded_at nil j l e = absurd (not-suc-le-zero l)
+  recorded_at (row {w = w} i m) zero l e = rw (recorded_cons, eq-eqb _ _ e, eq-eqb (value_first size w) (value_first size w) refl)
+  recorded_at (row {w = w} {ws = ws} i m) (suc j) l e =
+      let h = rising_from (λ v. v / size) m j (le_of_suc-le-suc l) in
+      let k = key_parts size (get_or ws j 0) in
+      rw (recorded_cons, not_dated size p (value_first size (get_or ws j 0)) w (λ z. omega arith)) (recorded_at m j (le_of_suc-le-suc l) e)
 
   module _ (f : PointFits size p) (d : ℕ) (hd : d < day_room) {ws : List ℕ} (m : Rising (λ w. w / size) 0 ws) where
     later : (i : ℕ) → rows_below (pack_value size p (d + 1) 0) ws ≤ i → i < length ws → p * day_room + d < get_or ws i 0 / size
     later i h l =
-        let z = from-value size f.some p (d + 1) (get_or ws i 0) (above_at _ (values-rising size f.some m) i h l) in
+        let z = from-value size f.some p (d + 1) (get_or ws i 0) (above_at _ (values_rising size f.some m) i h l) in
         omega arith
 
     -- nothing is recorded by then
     value_none : rows_below (pack_value size p (d + 1) 0) ws ≡ 0 → latest (recorded_on size ws p) d ≡ 0
     value_none e =
-        latest-empty (recorded_on size ws p) d (λ i h. recorded-none i ws (λ j l z. let k = later j (omega arith) l in omega arith))
+        latest_empty (recorded_on size ws p) d (λ i h. recorded_none i ws (λ j l z. let k = later j (omega arith) l in omega arith))
 
     -- the last row by then is of the point, or nothing is recorded by then
     value-last : (j : ℕ) → rows_below (pack_value size p (d + 1) 0) ws ≡ suc j → j < length ws
         → latest (recorded_on size ws p) d ≡ cond (eqb (value_point size (get_or ws j 0)) p) (value_of size (get_or ws j 0)) 0
     value-last j e l =
         let w = get_or ws j 0 in
-        let k = key-parts size w in
+        let k = key_parts size w in
         let b = below-value size f.some p (d + 1) w (below_at _ ws j (omega arith)) in
         cases (eqb (value_point size w) p)
         (λ t. rw t (latest-at (recorded_on size ws p) (value_first size w) (value_of size w) d (omega (arith, tests))
-        (recorded-at m j l (eqb-true _ _ t))
-        (λ i a h. recorded-none i ws (λ n o z. cases (leb n j)
+        (recorded_at m j l (eqb-true _ _ t))
+        (λ i a h. recorded_none i ws (λ n o z. cases (leb n j)
         (λ u. let y = rising_le (λ v. v / size) m n j (omega (arith, tests)) l in omega (arith, tests))
         (λ u. let y = later n (omega (arith, tests)) o in omega arith)))))
-        (λ t. rw t (latest-empty (recorded_on size ws p) d (λ i h. recorded-none i ws (λ n o z. cases (leb n j)
+        (λ t. rw t (latest_empty (recorded_on size ws p) d (λ i h. recorded_none i ws (λ n o z. cases (leb n j)
         (λ u. let y = rising_le (λ v. v / size) m n j (omega (arith, tests)) l in omega (arith, tests))
         (λ u. let y = later n (omega (arith, tests)) o in omega arith)))))
 
   -- what the search finds of a table
   module _ (f : PointFits size p) (d : ℕ) (hd : d < day_room) {xs : List ℕ} {n at : ℕ} (rows : ValueRows size xs n)
       (found : RowPlace xs n (pack_value size p (d + 1) 0) at) where
-    pub value-missed : at ≡ 0 → latest (recorded_on size (take n xs) p) d ≡ 0
-    value-missed z = value_none f d hd rows.order (sym found.is ∙ z)
+    pub value_missed : at ≡ 0 → latest (recorded_on size (take n xs) p) d ≡ 0
+    value_missed z = value_none f d hd rows.order (sym found.is ∙ z)
 
     pub value_found : 0 < at → let w = get_or xs (at - 1) 0 in
         latest (recorded_on size (take n xs) p) d ≡ cond (eqb (value_point size w) p) (value_of size w) 0
@@ -218,17 +222,17 @@ module _ (size : ℕ) (pos : 0 < size) (w : ℕ) where
   key_below : (x : ℕ) → x < w / size * size → x / size < w / size
   key_below x h = (div-lt_iff_lt-mul {k = size} {x = x} {y = w / size} pos).1 h
 
-  key-from : (x : ℕ) → w / size * size ≤ x → w / size ≤ x / size
-  key-from x h = (le-div_iff_mul-le {k = size} {x = w / size} {y = x} pos).1 h
+  key_from : (x : ℕ) → w / size * size ≤ x → w / size ≤ x / size
+  key_from x h = (le-div_iff_mul-le {k = size} {x = w / size} {y = x} pos).1 h
 
   -- rows of earlier points and days are passed by
-  record-pass : (x : ℕ) (xs : List ℕ) → x / size < w / size → record_row size w (x ∷ xs) ≡ x ∷ record_row size w xs
-  record-pass x xs h =
+  record_pass : (x : ℕ) (xs : List ℕ) → x / size < w / size → record_row size w (x ∷ xs) ≡ x ∷ record_row size w xs
+  record_pass x xs h =
       let a : eqb (x / size) (w / size) ≡ false = omega (arith, tests) in
       let b : ltb w x ≡ false = cases (ltb w x)
-      (λ t. let z = div-le-div size pos w x (omega (arith, tests)) in absurd (omega arith))
+      (λ t. let z = div_le_div size pos w x (omega (arith, tests)) in absurd (omega arith))
       (λ t. t) in
-      rw (record-cons, a, b)
+      rw (record_cons, a, b)
 
   record_same : (ws : List ℕ) → let at = rows_below (w / size * size) ws in
       at < length ws → get_or ws at 0 / size ≡ w / size → record_row size w ws ≡ set ws at w
@@ -237,40 +241,40 @@ module _ (size : ℕ) (pos : 0 < size) (w : ℕ) where
   record_same (x ∷ xs) l e = cases (ltb x (w / size * size))
       (λ t. let l' : suc (rows_below (w / size * size) xs) < suc (length xs) = rw t at l in
       let e' : get_or xs (rows_below (w / size * size) xs) 0 / size ≡ w / size = rw t at e in
-      rw (record-pass x xs (key_below x (ltb-true _ _ t)), t) (ap (λ (r : List ℕ). x ∷ r) (record_same xs (le_of_suc-le-suc l') e')))
-      (λ t. let e' : x / size ≡ w / size = rw t at e in rw (record-cons, t, eq-eqb _ _ e'))
+      rw (record_pass x xs (key_below x (ltb-true _ _ t)), t) (ap (λ (r : List ℕ). x ∷ r) (record_same xs (le_of_suc-le-suc l') e')))
+      (λ t. let e' : x / size ≡ w / size = rw t at e in rw (record_cons, t, eq-eqb _ _ e'))
 
-  record-new : (ws : List ℕ) → let at = rows_below (w / size * size) ws in
+  record_new : (ws : List ℕ) → let at = rows_below (w / size * size) ws in
       (at < length ws → get_or ws at 0 / size ≡ w / size → ⊥) → record_row size w ws ≡ put_in at w ws
   unfolding rows_below put_in
-  record-new [] h = record-nil size w
-  record-new (x ∷ xs) h = cases (ltb x (w / size * size))
+  record_new [] h = record_nil size w
+  record_new (x ∷ xs) h = cases (ltb x (w / size * size))
       (λ t. let at = rows_below (w / size * size) xs in
       let h' : suc at < suc (length xs) → get_or xs at 0 / size ≡ w / size → ⊥ = rw t at h in
-      rw (record-pass x xs (key_below x (ltb-true _ _ t)), t) (ap (λ (r : List ℕ). x ∷ r) (record-new xs (λ l. h' (suc-le-suc l)))))
+      rw (record_pass x xs (key_below x (ltb-true _ _ t)), t) (ap (λ (r : List ℕ). x ∷ r) (record_new xs (λ l. h' (suc-le-suc l)))))
       (λ t. let h' : 0 < suc (length xs) → x / size ≡ w / size → ⊥ = rw t at h in
       let ne = h' (omega arith) in
-      let k = key-from x (ltb-false _ _ t) in
+      let k = key_from x (ltb-false _ _ t) in
       let u : ltb w x ≡ true = cases (ltb w x)
       (λ v. v)
-      (λ v. let z = div-le-div size pos x w (omega (arith, tests)) in absurd (ne (omega arith))) in
-      rw (record-cons, t, ne_eqb _ _ ne, u))
+      (λ v. let z = div_le_div size pos x w (omega (arith, tests)) in absurd (ne (omega arith))) in
+      rw (record_cons, t, ne_eqb _ _ ne, u))
 
 -- ---- a new value in the whole table, at the place that the search found
 
 module _ (size : ℕ) (pos : 0 < size) (w : ℕ) {xs : List ℕ} {n at : ℕ} (c : ClearBehind xs n)
     (found : RowPlace xs n (w / size * size) at) where
-  pub record-replaced : at < n → get_or xs at 0 / size ≡ w / size → Changed (record_row size w (take n xs)) (set xs at w) n
-  record-replaced h e =
+  pub record_replaced : at < n → get_or xs at 0 / size ≡ w / size → Changed (record_row size w (take n xs)) (set xs at w) n
+  record_replaced h e =
       let l = rows_long xs n c in
       let f = found.is in
       let s : record_row size w (take n xs) ≡ set (take n xs) at w
       = record_same size pos w (take n xs) (omega arith) (rw (← f, get_or-take n xs at 0 h) e) ∙ rw (← f) in
-      record { is = rw s (table-set xs n c at w h); count = rw s (sym (length-set (take n xs) at w ∙ l)) }
+      record { is = rw s (table_set xs n c at w h); count = rw s (sym (length-set (take n xs) at w ∙ l)) }
 
   module _ (new : at < n → get_or xs at 0 / size ≡ w / size → ⊥) where
-    put-new : record_row size w (take n xs) ≡ put_in at w (take n xs)
-    put-new =
+    put_new : record_row size w (take n xs) ≡ put_in at w (take n xs)
+    put_new =
         let l = rows_long xs n c in
         let f = found.is in
         let there = rows_below (w / size * size) (take n xs) in
@@ -278,16 +282,16 @@ module _ (size : ℕ) (pos : 0 < size) (w : ℕ) {xs : List ℕ} {n at : ℕ} (c
         = λ h e. let h' : at < n = omega arith in
         let e' : get_or xs at 0 / size ≡ w / size = rw (← f, get_or-take n xs at 0 h') at e in
         new h' e' in
-        record-new size pos w (take n xs) k ∙ rw (← f)
+        record_new size pos w (take n xs) k ∙ rw (← f)
 
-    pub record-longer : length (record_row size w (take n xs)) ≡ n + 1
-    record-longer =
+    pub record_longer : length (record_row size w (take n xs)) ≡ n + 1
+    record_longer =
         let l = rows_long xs n c in
         let b = found.within in
-        rw put-new (length_put at w (take n xs) (omega arith) ∙ rw l (omega arith))
+        rw put_new (length_put at w (take n xs) (omega arith) ∙ rw l (omega arith))
 
-    pub record-put : (zs : List ℕ) → zs ≡ (table_of (put_in at w (take n xs))).words → Changed (record_row size w (take n xs)) zs (n + 1)
-    record-put zs z = record { is = rw (← put-new) at z; count = sym record-longer }
+    pub record_put : (zs : List ℕ) → zs ≡ (table_of (put_in at w (take n xs))).words → Changed (record_row size w (take n xs)) zs (n + 1)
+    record_put zs z = record { is = rw (← put_new) at z; count = sym record_longer }
 
 -- what the test of a place says
 pub not_same : (at n x k : ℕ) → (ltb at n && eqb x k) ≡ false → at < n → x ≡ k → ⊥

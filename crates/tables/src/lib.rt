@@ -1,6 +1,9 @@
 // Rows of packed words in lent tables: fields, search, insertion, removal, what the rows say of a day, and question 5 of a table.
 // A table is a slice of 1,024 words, of which the first `used` are rows; the rows are strictly increasing.
-ghost use Rattle.std.specs.Prelude.{◌≡◌, ◌&&◌, cond, [], ◌∷◌, ◌++◌, ◌+◌, ◌-◌, ◌*◌, ◌/◌, ◌≤◌, ◌<◌, ltb, eqb, length, get_or, take, drop, replicate};
+#![tactic(auto)]
+
+ghost use Rattle.std.specs.Prelude.{◌≡◌, ◌&&◌, cond, [], ◌∷◌, ◌++◌, ◌+◌, ◌-◌, ◌*◌, ◌/◌, ◌≤◌, ◌<◌, ltb, eqb, length};
+ghost use Rattle.std.specs.Prelude.{get_or, take, drop, replicate};
 ghost use Rattle.rules.specs.Rows.{pack_period, period_point, period_element, period_first, period_end, period_quantity, of_pair, covers};
 ghost use Rattle.rules.specs.Rows.{quantity_on, starts_on, next_start, pair_rows, insert_row, stop_rows, split_rows};
 ghost use Rattle.rules.specs.Rows.{pack_value, value_point, value_first, value_of, recorded_on, record_row};
@@ -14,7 +17,7 @@ ghost use Rattle.tables.specs.Tests.{is_zero, row_fits_at, kind_allows, days_rig
 ghost use Rattle.tables.specs.Search.{RowPlace, Covering, covering_row, is_given, end_on, next_recorded, row_from};
 ghost use Rattle.tables.specs.Search.{Changed, cut_row, cut_before, put_in, without, moved};
 ghost use Rattle.tables.specs.RowRange.{point_rows};
-ghost use Rattle.rules.specs.Lent.{Lists, no_lists, opening_in, lend_data, left, was};
+ghost use Rattle.rules.specs.Lent.{Lists, no_lists, opening_in, lend_data};
 
 use rules::{
     Book, CLOSED, DAY_ROOM, ELEMENT_ROOM, ELEMENT_SIZE, ELEMENT_UNIT, END_OF_DAYS, END_UNIT, FEE,
@@ -126,7 +129,7 @@ pub fn covers_day(word: u64, point: u64, element: u64, day: u64) -> bool
 // How many rows are below the word. Logarithmic in the rows.
 pub fn place(table: &[u64], used: usize, word: u64) -> usize
     requires { OrderedRows table.now used }
-    ensures { RowPlace (was table) used word result }
+    ensures { RowPlace table.now used word result }
 {
     let mut low = 0;
     let mut high = used;
@@ -144,7 +147,7 @@ pub fn place(table: &[u64], used: usize, word: u64) -> usize
 // The first row that is not below the word, or a word above every row where there is none. Logarithmic in the rows.
 pub fn row_from(table: &[u64], used: usize, word: u64) -> u64
     requires { OrderedRows table.now used }
-    ensures { result ≡ row_from word (take used (was table)) }
+    ensures { result ≡ row_from word (take used table.now) }
 {
     let at = place(table, used, word);
     if at < used {
@@ -160,7 +163,7 @@ pub fn covering_place(table: &[u64], used: usize, point: u64, element: u64, day:
     requires link_rows { LinkRows table.now used }
     requires pair_fits { PairFits point element }
     requires day_fits { DayFits day }
-    ensures { Covering point element day (was table) used result }
+    ensures { Covering point element day table.now used result }
 {
     let at = place(table, used, pack_period(point, element, day + 1, 0, 0));
     if at == 0 {
@@ -179,7 +182,7 @@ pub fn covering_place(table: &[u64], used: usize, point: u64, element: u64, day:
 // it. Linear in the words lent.
 pub fn shift_down(tail: &mut [u64], word: u64)
     requires { 0 < length tail.old }
-    ensures { left tail ≡ word ∷ take (length (was tail) - 1) (was tail) }
+    ensures { tail.new ≡ word ∷ take (length tail.old - 1) tail.old }
 {
     let mut i = tail.len() - 1;
     while 0 < i {
@@ -194,7 +197,7 @@ pub fn shift_down(tail: &mut [u64], word: u64)
 pub fn insert_at(table: &mut [u64], used: usize, at: usize, word: u64)
     requires clear_behind { ClearBehind table.old used }
     requires at_le_used { (at ≤ used) × (used < places) }
-    ensures { left table ≡ (table_of (put_in at word (take used (was table)))).words }
+    ensures { table.new ≡ (table_of (put_in at word (take used table.old))).words }
 {
     let end = used + 1;
     shift_down(&mut table[at..end], word);
@@ -205,7 +208,7 @@ pub fn insert(table: &mut [u64], used: usize, word: u64)
     requires clear_behind { ClearBehind table.old used }
     requires ordered_rows { OrderedRows table.old used }
     requires used_lt_places { used < places }
-    ensures { left table ≡ (table_of (insert_row word (take used (was table)))).words }
+    ensures { table.new ≡ (table_of (insert_row word (take used table.old))).words }
 {
     let at = place(table, used, word);
     insert_at(table, used, at, word);
@@ -214,7 +217,7 @@ pub fn insert(table: &mut [u64], used: usize, word: u64)
 // The words of one part move up to the front of it, those of its first `gap` places fall off. Linear in the words lent.
 fn move_up(tail: &mut [u64], gap: usize)
     requires { gap ≤ length tail.old }
-    ensures { left tail ≡ moved gap (was tail) (length (was tail) - gap) }
+    ensures { tail.new ≡ moved gap tail.old (length tail.old - gap) }
 {
     let mut i = 0;
     let mut j = gap;
@@ -228,7 +231,7 @@ fn move_up(tail: &mut [u64], gap: usize)
 // The first word falls off, every other moves up by one, a 0 goes to the end. Linear in the words lent.
 fn shift_up(tail: &mut [u64])
     requires { 0 < length tail.old }
-    ensures { left tail ≡ drop 1 (was tail) ++ (0 ∷ []) }
+    ensures { tail.new ≡ drop 1 tail.old ++ (0 ∷ []) }
 {
     let last = tail.len() - 1;
     let mut i = 0;
@@ -241,7 +244,7 @@ fn shift_up(tail: &mut [u64])
 
 // Every word is 0. Linear in the words lent.
 pub fn clear(part: &mut [u64])
-    ensures { left part ≡ replicate (length (was part)) 0 }
+    ensures { part.new ≡ replicate (length part.old) 0 }
 {
     let mut i = 0;
     while i < part.len() {
@@ -256,7 +259,7 @@ pub fn clear(part: &mut [u64])
 pub fn remove(table: &mut [u64], used: usize, from: usize, to: usize) -> usize
     requires clear_behind { ClearBehind table.old used }
     requires from_le_to { (from ≤ to) × (to ≤ used) }
-    ensures { Changed (without from to (take used (was table))) (left table) result }
+    ensures { Changed (without from to (take used table.old)) table.new result }
 {
     if from == to {
         return used;
@@ -294,7 +297,7 @@ fn cut_before(table: &mut [u64], at: usize, point: u64, element: u64, day: u64)
     requires at_in_bounds { at ≤ length table.old }
     requires pair_fits { PairFits point element }
     requires day_fits { DayFits day }
-    ensures { left table ≡ cut_before point element day at (was table) }
+    ensures { table.new ≡ cut_before point element day at table.old }
 {
     if 0 < at {
         let last = at - 1;
@@ -310,7 +313,7 @@ pub fn stop(table: &mut [u64], used: usize, point: u64, element: u64, day: u64) 
     requires link_rows { LinkRows table.old used }
     requires pair_fits { PairFits point element }
     requires day_fits { DayFits day }
-    ensures { Changed (stop_rows point element day (take used (was table))) (left table) result }
+    ensures { Changed (stop_rows point element day (take used table.old)) table.new result }
 {
     let from = place(table, used, pack_period(point, element, day, 0, 0));
     let to = place(table, used, pair_bound(point, element));
@@ -334,7 +337,7 @@ pub fn split(
     requires day_fits { DayFits day }
     requires quantity_lt_quantity_room { quantity < quantity_room }
     requires table_len_bound { length (split_rows point element day quantity (take used table.old)) ≤ places }
-    ensures { Changed (split_rows point element day quantity (take used (was table))) (left table) result }
+    ensures { Changed (split_rows point element day quantity (take used table.old)) table.new result }
 {
     let at = covering_place(table, used, point, element, day);
     if at == used {
@@ -354,7 +357,7 @@ pub fn split(
 // Is there a row at the place, of the point and day that the key stands for. Constant time.
 fn same_day(table: &[u64], used: usize, at: usize, size: u64, key: u64) -> bool
     requires { (0 < size) × (used ≤ length table.now) }
-    ensures { result ≡ (ltb at used && eqb (get_or (was table) at 0 / size) key) }
+    ensures { result ≡ (ltb at used && eqb (get_or table.now at 0 / size) key) }
 {
     if at < used {
         return table[at] / size == key;
@@ -369,7 +372,7 @@ pub fn record_value(table: &mut [u64], used: usize, size: u64, word: u64) -> usi
     requires value_rows { ValueRows size table.old used }
     requires size_nonzero { 0 < size }
     requires table_len_bound { length (record_row size word (take used table.old)) ≤ places }
-    ensures { Changed (record_row size word (take used (was table))) (left table) result }
+    ensures { Changed (record_row size word (take used table.old)) table.new result }
 {
     let key = word / size;
     let at = place(table, used, key * size);
@@ -388,7 +391,7 @@ fn covering_row(table: &[u64], used: usize, point: u64, element: u64, day: u64) 
     requires link_rows { LinkRows table.now used }
     requires pair_fits { PairFits point element }
     requires day_fits { DayFits day }
-    ensures { result ≡ covering_row point element day (take used (was table)) }
+    ensures { result ≡ covering_row point element day (take used table.now) }
 {
     let at = covering_place(table, used, point, element, day);
     if at < used {
@@ -402,7 +405,7 @@ pub fn quantity_on(table: &[u64], used: usize, point: u64, element: u64, day: u6
     requires link_rows { LinkRows table.now used }
     requires pair_fits { PairFits point element }
     requires day_fits { DayFits day }
-    ensures { result ≡ quantity_on (take used (was table)) point element day }
+    ensures { result ≡ quantity_on (take used table.now) point element day }
 {
     quantity_of(covering_row(table, used, point, element, day))
 }
@@ -412,7 +415,7 @@ pub fn period_end(table: &[u64], used: usize, point: u64, element: u64, day: u64
     requires link_rows { LinkRows table.now used }
     requires pair_fits { PairFits point element }
     requires day_fits { DayFits day }
-    ensures { result ≡ end_on (take used (was table)) point element day }
+    ensures { result ≡ end_on (take used table.now) point element day }
 {
     end_of(covering_row(table, used, point, element, day))
 }
@@ -422,7 +425,7 @@ pub fn value_on(table: &[u64], used: usize, size: u64, point: u64, day: u64) -> 
     requires value_rows { ValueRows size table.now used }
     requires point_fits { PointFits size point }
     requires day_fits { DayFits day }
-    ensures { result ≡ latest (recorded_on size (take used (was table)) point) day }
+    ensures { result ≡ latest (recorded_on size (take used table.now) point) day }
 {
     let at = place(table, used, pack_value(size, point, day + 1, 0));
     if at == 0 {
@@ -441,7 +444,7 @@ pub fn recorded(table: &[u64], used: usize, size: u64, point: u64, day: u64) -> 
     requires value_rows { ValueRows size table.now used }
     requires point_fits { PointFits size point }
     requires day_fits { DayFits day }
-    ensures { result ≡ is_given (recorded_on size (take used (was table)) point day) }
+    ensures { result ≡ is_given (recorded_on size (take used table.now) point day) }
 {
     let word = row_from(table, used, pack_value(size, point, day, 0));
     if value_point_of(size, word) == point {
@@ -455,7 +458,7 @@ pub fn next_record(table: &[u64], used: usize, size: u64, point: u64, day: u64) 
     requires value_rows { ValueRows size table.now used }
     requires point_fits { PointFits size point }
     requires day_fits { DayFits day }
-    ensures { result ≡ next_recorded size (take used (was table)) point day }
+    ensures { result ≡ next_recorded size (take used table.now) point day }
 {
     let word = row_from(table, used, pack_value(size, point, day + 1, 0));
     if value_point_of(size, word) == point {
@@ -474,7 +477,7 @@ pub fn next_start(table: &[u64], used: usize, point: u64, element: u64, day: u64
     requires link_rows { LinkRows table.now used }
     requires pair_fits { PairFits point element }
     requires day_fits { DayFits day }
-    ensures { result ≡ next_start (take used (was table)) point element day }
+    ensures { result ≡ next_start (take used table.now) point element day }
 {
     next_record(table, used, FIRST_UNIT, point * ELEMENT_ROOM + element, day)
 }
@@ -483,7 +486,7 @@ pub fn next_start(table: &[u64], used: usize, point: u64, element: u64, day: u64
 pub fn link_end(kind: u64, table: &[u64], used: usize, point: u64, element: u64, day: u64) -> u64
     requires link_rows { LinkRows table.now used }
     requires pair_fits { PairFits point element × DayFits day }
-    ensures { result ≡ cond (eqb kind fee) (day + 1) (next_start (take used (was table)) point element day) }
+    ensures { result ≡ cond (eqb kind fee) (day + 1) (next_start (take used table.now) point element day) }
 {
     if kind == FEE {
         day + 1
@@ -497,7 +500,7 @@ pub fn starts_on(table: &[u64], used: usize, point: u64, element: u64, day: u64)
     requires link_rows { LinkRows table.now used }
     requires pair_fits { PairFits point element }
     requires day_fits { DayFits day }
-    ensures { result ≡ starts_on (take used (was table)) point element day }
+    ensures { result ≡ starts_on (take used table.now) point element day }
 {
     recorded(table, used, FIRST_UNIT, point * ELEMENT_ROOM + element, day)
 }
@@ -506,7 +509,7 @@ pub fn starts_on(table: &[u64], used: usize, point: u64, element: u64, day: u64)
 pub fn pair_part(table: &[u64], used: usize, point: u64, element: u64) -> &[u64]
     requires link_rows { LinkRows table.now used }
     requires pair_fits { PairFits point element }
-    ensures { result.now ≡ pair_rows point element (take used (was table)) }
+    ensures { result.now ≡ pair_rows point element (take used table.now) }
 {
     let from = place(table, used, pack_period(point, element, 0, 0, 0));
     let to = place(table, used, pair_bound(point, element));
@@ -517,7 +520,7 @@ pub fn pair_part(table: &[u64], used: usize, point: u64, element: u64) -> &[u64]
 pub fn point_part(table: &[u64], used: usize, point: u64) -> &[u64]
     requires link_rows { LinkRows table.now used }
     requires point_lt_most_points { point < most_points }
-    ensures { result.now ≡ point_rows point (take used (was table)) }
+    ensures { result.now ≡ point_rows point (take used table.now) }
 {
     let from = place(table, used, point * POINT_UNIT);
     let to = place(table, used, (point + 1) * POINT_UNIT);
@@ -529,7 +532,7 @@ pub fn point_part(table: &[u64], used: usize, point: u64) -> &[u64]
 // Is every place past the rows 0. Linear in the places.
 fn zeros_behind(table: &[u64], used: usize) -> bool
     requires { used ≤ length table.now }
-    ensures { result ≡ all_in is_zero (drop used (was table)) }
+    ensures { result ≡ all_in is_zero (drop used table.now) }
 {
     let mut i = used;
     while i < table.len() {
@@ -559,7 +562,7 @@ fn kind_allows(kind: u8, first: u64, end: u64, quantity: u64) -> bool
 // Is a period right by itself. Constant time.
 fn period_right(book: Book, element_data: &[u8], word: u64) -> bool
     requires { length element_data.now ≡ book.elements * element_size }
-    ensures { result ≡ period_right (opening_in book (lend_data (was element_data) no_lists)) word }
+    ensures { result ≡ period_right (opening_in book (lend_data element_data.now no_lists)) word }
 {
     let element = element_of(word);
     let first = first_of(word);
@@ -611,7 +614,7 @@ fn are_apart(word: u64, next: u64) -> bool
 fn period_fits(book: Book, element_data: &[u8], table: &[u64], i: usize) -> bool
     requires element_data_len { length element_data.now ≡ book.elements * element_size }
     requires i_in_bounds { i < length table.now }
-    ensures { result ≡ row_fits_at apart (period_right (opening_in book (lend_data (was element_data) no_lists))) (was table) i }
+    ensures { result ≡ row_fits_at apart (period_right (opening_in book (lend_data element_data.now no_lists))) table.now i }
 {
     let word = table[i];
     if period_right(book, element_data, word) {
@@ -629,7 +632,7 @@ pub fn links_right(book: Book, element_data: &[u8], table: &[u64], used: usize) 
     requires element_data_len { length element_data.now ≡ book.elements * element_size }
     requires used_in_bounds { used ≤ length table.now }
     ensures { (o : Lists) →
-        result ≡ links_right (opening_in book (lend_data (was element_data) o)) (record { used = used; words = was table }) }
+        result ≡ links_right (opening_in book (lend_data element_data.now o)) (record { used = used; words = table.now }) }
 {
     let mut i = 0;
     while i < used {
@@ -664,7 +667,7 @@ fn value_right(book: Book, size: u64, low: u64, high: u64, word: u64) -> bool
 fn value_fits(book: Book, size: u64, low: u64, high: u64, table: &[u64], i: usize) -> bool
     requires size_nonzero { 0 < size }
     requires i_in_bounds { i < length table.now }
-    ensures { result ≡ row_fits_at (earlier size) (value_right size low high (opening_in book no_lists)) (was table) i }
+    ensures { result ≡ row_fits_at (earlier size) (value_right size low high (opening_in book no_lists)) table.now i }
 {
     let word = table[i];
     if value_right(book, size, low, high, word) {
@@ -682,7 +685,7 @@ pub fn values_right(book: Book, size: u64, low: u64, high: u64, table: &[u64], u
     requires size_nonzero { 0 < size }
     requires used_in_bounds { used ≤ length table.now }
     ensures { result ≡ table_right (earlier size) (value_right size low high (opening_in book no_lists))
-        (record { used = used; words = was table }) }
+        (record { used = used; words = table.now }) }
 {
     let mut i = 0;
     while i < used {
@@ -698,7 +701,7 @@ pub fn values_right(book: Book, size: u64, low: u64, high: u64, table: &[u64], u
 // Question 5 of the table of holders. Linear in the places.
 pub fn holders_right(book: Book, table: &[u64], used: usize) -> bool
     requires { used ≤ length table.now }
-    ensures { (o : Lists) → result ≡ holders_right (opening_in book o) (record { used = used; words = was table }) }
+    ensures { (o : Lists) → result ≡ holders_right (opening_in book o) (record { used = used; words = table.now }) }
 {
     let high = book.suppliers;
     values_right(book, HOLDER_SIZE, 0, high, table, used)
@@ -707,7 +710,7 @@ pub fn holders_right(book: Book, table: &[u64], used: usize) -> bool
 // Question 5 of the table of states. Linear in the places.
 pub fn states_right(book: Book, table: &[u64], used: usize) -> bool
     requires { used ≤ length table.now }
-    ensures { (o : Lists) → result ≡ states_right (opening_in book o) (record { used = used; words = was table }) }
+    ensures { (o : Lists) → result ≡ states_right (opening_in book o) (record { used = used; words = table.now }) }
 {
     values_right(book, STATE_SIZE, NEW, CLOSED, table, used)
 }

@@ -16,21 +16,21 @@ use Rattle.rules.specs.World.{new_state, closed}
 use Rattle.rules.specs.Messages.{sender_of, is_day, no_hour, no_element, is_quantity, fields_right, value_fits, body_named}
 
 module _ (n : ℕ) (f : Fields) where
-  pub role-1 : f.role ≡ 1 → sender_of n f ≡ when (eqb f.sender 0) Sender.GridCompany
+  pub role_1 : f.role ≡ 1 → sender_of n f ≡ when (eqb f.sender 0) Sender.GridCompany
   unfolding sender_of
-  role-1 k = rw k
+  role_1 k = rw k
 
-  pub role-2 : f.role ≡ 2 → sender_of n f ≡ when (eqb f.sender 0) Sender.Energinet
+  pub role_2 : f.role ≡ 2 → sender_of n f ≡ when (eqb f.sender 0) Sender.Energinet
   unfolding sender_of
-  role-2 k = rw k
+  role_2 k = rw k
 
-  pub role-3 : f.role ≡ 3 → sender_of n f ≡ when (within 1 n f.sender) (Sender.Supplier f.sender)
+  pub role_3 : f.role ≡ 3 → sender_of n f ≡ when (within 1 n f.sender) (Sender.Supplier f.sender)
   unfolding sender_of
-  role-3 k = rw k
+  role_3 k = rw k
 
-  pub role-else : f.role ≢ 1 → f.role ≢ 2 → f.role ≢ 3 → sender_of n f ≡ none
+  pub role_else : f.role ≢ 1 → f.role ≢ 2 → f.role ≢ 3 → sender_of n f ≡ none
   unfolding sender_of when
-  role-else a b c = rw (ne_eqb _ _ a, ne_eqb _ _ b, ne_eqb _ _ c)
+  role_else a b c = rw (ne_eqb _ _ a, ne_eqb _ _ b, ne_eqb _ _ c)
 
 module _ (f : Fields) where
   -- ---- which fields a kind uses
@@ -65,9 +65,9 @@ module _ (f : Fields) where
   unfolding fields_right within
   right-below a = let k : f.kind ≡ 0 = omega arith in rw k
 
-  pub right-above : 6 ≤ f.kind → f.kind ≢ 6 → f.kind ≢ 7 → f.kind ≢ 8 → fields_right f ≡ false
+  pub right_above : 6 ≤ f.kind → f.kind ≢ 6 → f.kind ≢ 7 → f.kind ≢ 8 → fields_right f ≡ false
   unfolding fields_right within
-  right-above a b c d = rw (
+  right_above a b c d = rw (
     le-leb 1 f.kind (omega arith),
     lt-leb f.kind 3 (omega arith),
     le-leb 4 f.kind (omega arith),
@@ -79,38 +79,38 @@ module _ (f : Fields) where
 
   -- ---- which body it names
 
-  pub names-link : f.kind ≡ 1 → body_named f ≡ Body.Link f.point f.element f.day f.value
+  pub names_link : f.kind ≡ 1 → body_named f ≡ Body.Link f.point f.element f.day f.value
   unfolding body_named
-  names-link k = rw k
+  names_link k = rw k
 
-  pub names-stop : f.kind ≡ 2 → body_named f ≡ Body.Stop f.point f.element f.day
+  pub names_stop : f.kind ≡ 2 → body_named f ≡ Body.Stop f.point f.element f.day
   unfolding body_named
-  names-stop k = rw k
+  names_stop k = rw k
 
-  pub names-quantity : f.kind ≡ 3 → body_named f ≡ Body.Quantity f.point f.element f.day f.value
+  pub names_quantity : f.kind ≡ 3 → body_named f ≡ Body.Quantity f.point f.element f.day f.value
   unfolding body_named
-  names-quantity k = rw k
+  names_quantity k = rw k
 
-  pub names-holder : f.kind ≡ 4 → body_named f ≡ Body.Holder f.point f.day f.value
+  pub names_holder : f.kind ≡ 4 → body_named f ≡ Body.Holder f.point f.day f.value
   unfolding body_named
-  names-holder k = rw k
+  names_holder k = rw k
 
-  pub names-state : f.kind ≡ 5 → body_named f ≡ Body.State f.point f.day f.value
+  pub names_state : f.kind ≡ 5 → body_named f ≡ Body.State f.point f.day f.value
   unfolding body_named
-  names-state k = rw k
+  names_state k = rw k
 
-  pub names-reading : f.kind ≡ 6 → body_named f ≡ Body.Reading f.point f.day f.hour f.value
+  pub names_reading : f.kind ≡ 6 → body_named f ≡ Body.Reading f.point f.day f.hour f.value
   unfolding body_named
-  names-reading k = rw k
+  names_reading k = rw k
 
-  pub names-block : f.kind ≡ 7 → body_named f ≡ Body.Block f.point f.value
+  pub names_block : f.kind ≡ 7 → body_named f ≡ Body.Block f.point f.value
   unfolding body_named
-  names-block k = rw k
+  names_block k = rw k
 
-  pub names-round : f.kind ≢ 1 → f.kind ≢ 2 → f.kind ≢ 3 → f.kind ≢ 4 → f.kind ≢ 5 → f.kind ≢ 6 → f.kind ≢ 7
+  pub names_round : f.kind ≢ 1 → f.kind ≢ 2 → f.kind ≢ 3 → f.kind ≢ 4 → f.kind ≢ 5 → f.kind ≢ 6 → f.kind ≢ 7
       → body_named f ≡ Body.Round
   unfolding body_named
-  names-round a b c d e g h =
+  names_round a b c d e g h =
       rw (ne_eqb _ _ a, ne_eqb _ _ b, ne_eqb _ _ c, ne_eqb _ _ d, ne_eqb _ _ e, ne_eqb _ _ g, ne_eqb _ _ h)
 
 -- what a kind's value is
@@ -132,10 +132,10 @@ module _ (n kind value : ℕ) where
   unfolding value_fits
   fits-energy k = rw k
 
-  pub fits-block : kind ≡ 7 → value_fits n kind value ≡ leb value 1
+  pub fits_block : kind ≡ 7 → value_fits n kind value ≡ leb value 1
   unfolding value_fits
-  fits-block k = rw k
+  fits_block k = rw k
 
-  pub fits-none : kind ≢ 1 → kind ≢ 3 → kind ≢ 4 → kind ≢ 5 → kind ≢ 6 → kind ≢ 7 → value_fits n kind value ≡ eqb value 0
+  pub fits_none : kind ≢ 1 → kind ≢ 3 → kind ≢ 4 → kind ≢ 5 → kind ≢ 6 → kind ≢ 7 → value_fits n kind value ≡ eqb value 0
   unfolding value_fits
-  fits-none a c d e g h = rw (ne_eqb _ _ a, ne_eqb _ _ c, ne_eqb _ _ d, ne_eqb _ _ e, ne_eqb _ _ g, ne_eqb _ _ h)
+  fits_none a c d e g h = rw (ne_eqb _ _ a, ne_eqb _ _ c, ne_eqb _ _ d, ne_eqb _ _ e, ne_eqb _ _ g, ne_eqb _ _ h)

@@ -20,14 +20,14 @@ use Rattle.rules.specs.Basics.{asked}
 use Rattle.rules.specs.World.{Opening, Tables, kind_of, owner_of, marks_of, marked, is_tariff, holder_on}
 use Rattle.rules.specs.Lent.{Lists, opening_in}
 use Rattle.rules.specs.Messages.{is_day, no_hour, fields_right, body_named}
-use Rattle.rules.specs.Questions.{in_time, point_of, place_of, tariff_once, blocked, may_link, may_send, is_grid_company, is_energinet, question7}
-use Rattle.rules.specs.Questions.{question8, question9, question10, question11, question12, question13, question14, question15, question16}
-use Rattle.rules.specs.Questions.{own_question, own_number}
+use Rattle.rules.specs.Questions.{in_time, point_of, place_of, tariff_once, blocked, may_link, may_send, is_grid_company, is_energinet}
+use Rattle.rules.specs.Questions.{question7, question8, question9, question10, question11, question12, question13, question14}
+use Rattle.rules.specs.Questions.{question15, question16, own_question, own_number}
 use Rattle.rules.specs.Effects.{ask}
 use Rattle.rules.proofs.Tests.{tests, cases, both}
 use Rattle.validation.specs.Decided.{decided, asked7to8, asked10to12, asked10to16, or_next, place_in, link_right, Known}
-use Rattle.validation.proofs.Arms.{right-place, right-below, right-above, names-link, names-stop, names-quantity, names-holder}
-use Rattle.validation.proofs.Arms.{names-state, names-reading, names-block, names-round}
+use Rattle.validation.proofs.Arms.{right-place, right-below, right_above, names_link, names_stop, names_quantity, names_holder}
+use Rattle.validation.proofs.Arms.{names_state, names_reading, names_block, names_round}
 use Rattle.validation.proofs.Next.{day_chain}
 
 -- question 9 by the numbers that it looks at
@@ -59,9 +59,6 @@ among_4 n m a b w x y z = cases (eqb n m)
     (λ t. w (eqb-true n m t))
     (λ t. among_3 n (m + 1) (omega (arith, tests)) (omega arith) x (λ k. y (omega arith)) (λ k. z (omega arith)))
 
-pub past : {n m : ℕ} → m ≤ n → n ≢ m → m < n
-past {n} {m} a h = cases (eqb n m) (λ t. absurd (h (eqb-true n m t))) (λ t. omega (arith, tests))
-
 module _ (f : Fields) where
   -- ---- what a kind is about
 
@@ -69,73 +66,73 @@ module _ (f : Fields) where
   module _ (a : 1 ≤ f.kind) (b : f.kind ≤ 3) where
     place-placed : place_of (body_named f) ≡ some (place_in f)
     unfolding place_of
-    place-placed = among_3 f.kind 1 a b (λ k. rw (names-link f k)) (λ k. rw (names-stop f k)) (λ k. rw (names-quantity f k))
+    place-placed = among_3 f.kind 1 a b (λ k. rw (names_link f k)) (λ k. rw (names_stop f k)) (λ k. rw (names_quantity f k))
 
     point-placed : point_of (body_named f) ≡ some f.point
     unfolding point_of
-    point-placed = among_3 f.kind 1 a b (λ k. rw (names-link f k)) (λ k. rw (names-stop f k)) (λ k. rw (names-quantity f k))
+    point-placed = among_3 f.kind 1 a b (λ k. rw (names_link f k)) (λ k. rw (names_stop f k)) (λ k. rw (names_quantity f k))
 
-    send-placed : (from : Sender) → may_send from (body_named f) ≡ true
+    send_placed : (from : Sender) → may_send from (body_named f) ≡ true
     unfolding may_send
-    send-placed from = among_3 f.kind 1 a b (λ k. rw (names-link f k)) (λ k. rw (names-stop f k)) (λ k. rw (names-quantity f k))
+    send_placed from = among_3 f.kind 1 a b (λ k. rw (names_link f k)) (λ k. rw (names_stop f k)) (λ k. rw (names_quantity f k))
 
   -- kind 8, and a number that is no kind
   pub round-high : 8 ≤ f.kind → body_named f ≡ Body.Round
-  round-high a = names-round f (λ k. omega arith) (λ k. omega arith) (λ k. omega arith) (λ k. omega arith) (λ k. omega arith)
+  round-high a = names_round f (λ k. omega arith) (λ k. omega arith) (λ k. omega arith) (λ k. omega arith) (λ k. omega arith)
       (λ k. omega arith)
       (λ k. omega arith)
 
   pub round-low : f.kind < 1 → body_named f ≡ Body.Round
-  round-low a = names-round f (λ k. omega arith) (λ k. omega arith) (λ k. omega arith) (λ k. omega arith) (λ k. omega arith)
+  round-low a = names_round f (λ k. omega arith) (λ k. omega arith) (λ k. omega arith) (λ k. omega arith) (λ k. omega arith)
       (λ k. omega arith)
       (λ k. omega arith)
 
   -- ---- questions 7 and 8
 
   module _ (o : Opening) where
-    pub known-placed : 1 ≤ f.kind → f.kind ≤ 3
+    pub known_placed : 1 ≤ f.kind → f.kind ≤ 3
         → asked7to8 o (body_named f)
         ≡ ask (ltb f.point o.points) 7 (ask (ltb f.element o.elements && tariff_once o (body_named f)) 8 0)
     unfolding asked7to8 question7 question8 asked
-    known-placed a b = rw (place-placed a b, point-placed a b)
+    known_placed a b = rw (place-placed a b, point-placed a b)
 
-    pub known-point : 4 ≤ f.kind → f.kind ≤ 7 → ask (ltb f.point o.points) 7 0 ≡ asked7to8 o (body_named f)
+    pub known_point : 4 ≤ f.kind → f.kind ≤ 7 → ask (ltb f.point o.points) 7 0 ≡ asked7to8 o (body_named f)
     unfolding asked7to8 question7 question8 asked ask point_of place_of tariff_once
-    known-point a b = among_4 f.kind 4 a b
-        (λ k. rw (names-holder f k))
-        (λ k. rw (names-state f k))
-        (λ k. rw (names-reading f k))
-        (λ k. rw (names-block f k))
+    known_point a b = among_4 f.kind 4 a b
+        (λ k. rw (names_holder f k))
+        (λ k. rw (names_state f k))
+        (λ k. rw (names_reading f k))
+        (λ k. rw (names_block f k))
 
-    pub known-round : body_named f ≡ Body.Round → 0 ≡ asked7to8 o (body_named f)
+    pub known_round : body_named f ≡ Body.Round → 0 ≡ asked7to8 o (body_named f)
     unfolding asked7to8 question7 question8 asked ask point_of place_of tariff_once
-    known-round h = rw h
+    known_round h = rw h
 
     pub once_link : f.kind ≡ 1 → tariff_once o (Body.Link f.point f.element f.day f.value) ≡ tariff_once o (body_named f)
-    once_link k = ap (tariff_once o) (sym (names-link f k))
+    once_link k = ap (tariff_once o) (sym (names_link f k))
 
-    pub once-other : 1 ≤ f.kind → f.kind ≤ 3 → f.kind ≢ 1 → tariff_once o (body_named f) ≡ true
+    pub once_other : 1 ≤ f.kind → f.kind ≤ 3 → f.kind ≢ 1 → tariff_once o (body_named f) ≡ true
     unfolding tariff_once
-    once-other a b h = among_3 f.kind 1 a b (λ k. absurd (h k)) (λ k. rw (names-stop f k)) (λ k. rw (names-quantity f k))
+    once_other a b h = among_3 f.kind 1 a b (λ k. absurd (h k)) (λ k. rw (names_stop f k)) (λ k. rw (names_quantity f k))
 
   -- ---- question 9
 
   module _ (o : Opening) (t : Tables) (from : Sender) where
-    pub may-placed : 1 ≤ f.kind → f.kind ≤ 3 → may_link o t from (place_in f) ≡ question9 o t from (body_named f)
+    pub may_placed : 1 ≤ f.kind → f.kind ≤ 3 → may_link o t from (place_in f) ≡ question9 o t from (body_named f)
     unfolding question9 asked
-    may-placed a b = rw (place-placed a b, send-placed a b from, and-true (may_link o t from (place_in f)))
+    may_placed a b = rw (place-placed a b, send_placed a b from, and-true (may_link o t from (place_in f)))
 
-    pub may-grid : 5 ≤ f.kind → f.kind ≤ 7 → is_grid_company from ≡ question9 o t from (body_named f)
+    pub may_grid : 5 ≤ f.kind → f.kind ≤ 7 → is_grid_company from ≡ question9 o t from (body_named f)
     unfolding question9 asked place_of may_send
-    may-grid a b = among_3 f.kind 5 a b (λ k. rw (names-state f k)) (λ k. rw (names-reading f k)) (λ k. rw (names-block f k))
+    may_grid a b = among_3 f.kind 5 a b (λ k. rw (names_state f k)) (λ k. rw (names_reading f k)) (λ k. rw (names_block f k))
 
-    pub may-holder : f.kind ≡ 4 → is_energinet from ≡ question9 o t from (body_named f)
+    pub may_holder : f.kind ≡ 4 → is_energinet from ≡ question9 o t from (body_named f)
     unfolding question9 asked place_of may_send
-    may-holder k = rw (names-holder f k)
+    may_holder k = rw (names_holder f k)
 
-    pub may-round : body_named f ≡ Body.Round → is_energinet from ≡ question9 o t from (body_named f)
+    pub may_round : body_named f ≡ Body.Round → is_energinet from ≡ question9 o t from (body_named f)
     unfolding question9 asked place_of may_send
-    may-round h = rw h
+    may_round h = rw h
 
   -- ---- questions 10 to 16
 
@@ -150,34 +147,34 @@ module _ (f : Fields) where
 
     pub rest-reading : f.kind ≡ 6 → ask (question16 o f.day) 16 0 ≡ asked10to16 o t from received (body_named f)
     unfolding asked10to16 question10 question11 question12 asked ask place_of own_question own_number
-    rest-reading k = rw (names-reading f k)
+    rest-reading k = rw (names_reading f k)
 
-    pub rest-none : 4 ≤ f.kind → f.kind ≢ 6 → 0 ≡ asked10to16 o t from received (body_named f)
+    pub rest_none : 4 ≤ f.kind → f.kind ≢ 6 → 0 ≡ asked10to16 o t from received (body_named f)
     unfolding asked10to16 question10 question11 question12 asked ask place_of own_question own_number
-    rest-none a h = cases (leb f.kind 7)
+    rest_none a h = cases (leb f.kind 7)
         (λ u. among_4 f.kind 4 a (leb-true f.kind 7 u)
-        (λ k. rw (names-holder f k))
-        (λ k. rw (names-state f k))
+        (λ k. rw (names_holder f k))
+        (λ k. rw (names_state f k))
         (λ k. absurd (h k))
-        (λ k. rw (names-block f k)))
+        (λ k. rw (names_block f k)))
         (λ u. rw (round-high (omega (arith, tests))))
 
   -- the one of their own
   module _ (o : Opening) (t : Tables) where
-    pub own-1 : f.kind ≡ 1
+    pub own_1 : f.kind ≡ 1
         → ask (question13 t f.point f.element f.day) 13 0 ≡ ask (own_question o t (body_named f)) (own_number (body_named f)) 0
     unfolding own_question own_number
-    own-1 k = rw (names-link f k)
+    own_1 k = rw (names_link f k)
 
-    pub own-2 : f.kind ≡ 2
+    pub own_2 : f.kind ≡ 2
         → ask (question14 t f.point f.element f.day) 14 0 ≡ ask (own_question o t (body_named f)) (own_number (body_named f)) 0
     unfolding own_question own_number
-    own-2 k = rw (names-stop f k)
+    own_2 k = rw (names_stop f k)
 
-    pub own-3 : f.kind ≡ 3
+    pub own_3 : f.kind ≡ 3
         → ask (question15 o t f.point f.element f.day) 15 0 ≡ ask (own_question o t (body_named f)) (own_number (body_named f)) 0
     unfolding own_question own_number
-    own-3 k = rw (names-quantity f k)
+    own_3 k = rw (names_quantity f k)
 
 -- ---- what questions 7 and 8 have said of a place
 
@@ -211,7 +208,7 @@ module _ (f : Fields) (r : fields_right f ≡ true) where
   kind-last : f.kind ≤ 8
   kind-last = cases (leb f.kind 8)
       (λ t. leb-true f.kind 8 t)
-      (λ t. absurd (false≢true (sym (right-above f (omega (arith, tests)) (λ k. omega (arith, tests)) (λ k. omega (arith, tests))
+      (λ t. absurd (false≢true (sym (right_above f (omega (arith, tests)) (λ k. omega (arith, tests)) (λ k. omega (arith, tests))
       (λ k. omega (arith, tests)))
       ∙ r)))
 
@@ -225,7 +222,7 @@ module _ (f : Fields) (r : fields_right f ≡ true) where
         last = kind-last;
         placed = λ k.
             let q = both_pass (ltb f.point b.points) (ltb f.element b.elements && tariff_once (opening_in b l) (body_named f))
-            (sym (known-placed f (opening_in b l) kind-first k) ∙ h) in
+            (sym (known_placed f (opening_in b l) kind-first k) ∙ h) in
             let e = (both (ltb f.element b.elements) (tariff_once (opening_in b l) (body_named f)) q.1).0 in
             let d = (both (is_day f.day) (no_hour f) (sym (right-place f kind-first (omega arith)) ∙ r)).0 in
             record { points = i; elements = j; point = ltb-true _ _ q.0; element = ltb-true _ _ e; day = ltb-true _ _ d };
@@ -254,12 +251,12 @@ module _ (o : Opening) (t : Tables) (f : Fields) (m : Message) (received : m.rec
   one_of_two false b x h = refl
 
   -- questions 7 and 8 pass, and 9 passes or not
-  pub decided-by : asked7to8 o (body_named f) ≡ 0 → (may : Bool) → question9 o t m.sender (body_named f) ≡ may
+  pub decided_by : asked7to8 o (body_named f) ≡ 0 → (may : Bool) → question9 o t m.sender (body_named f) ≡ may
       → ask may 9 (asked10to16 o t m.sender f.received (body_named f)) ≡ decided o t m 0
   unfolding asked7to8
-  decided-by h may e = rw (← e) (first_two (question7 o (body_named f)) (question8 o (body_named f)) _ h ∙ sym parts)
+  decided_by h may e = rw (← e) (first_two (question7 o (body_named f)) (question8 o (body_named f)) _ h ∙ sym parts)
 
   -- one of them refuses
-  pub decided-unknown : asked7to8 o (body_named f) ≢ 0 → asked7to8 o (body_named f) ≡ decided o t m 0
+  pub decided_unknown : asked7to8 o (body_named f) ≢ 0 → asked7to8 o (body_named f) ≡ decided o t m 0
   unfolding asked7to8
-  decided-unknown h = one_of_two (question7 o (body_named f)) (question8 o (body_named f)) _ h ∙ sym parts
+  decided_unknown h = one_of_two (question7 o (body_named f)) (question8 o (body_named f)) _ h ∙ sym parts

@@ -52,19 +52,19 @@ own_chain o t (Body.Block p b) = unfold own_question ask in chain_end
 own_chain o t Body.Round = unfold own_question ask in chain_end
 
 module _ (o : Opening) (t : Tables) where
-  pub decided-chain : (m : Message) → Chain (decided o t m)
+  pub decided_chain : (m : Message) → Chain (decided o t m)
   unfolding decided
-  decided-chain m =
+  decided_chain m =
       ask_chain _ 7 refl _ (ask_chain _ 8 refl _ (ask_chain _ 9 refl _ (ask_chain _ 10 refl _ (ask_chain _ 11 refl _
       (ask_chain _ 12 refl _ (own_chain o t m.body))))))
 
   -- a message that passes is answered by the rest
-  pub decided-passed : (m : Message) → decided o t m 0 ≡ 0 → (rest : ℕ) → decided o t m rest ≡ rest
-  decided-passed m = chain_passed (decided o t m) (decided-chain m)
+  pub decided_passed : (m : Message) → decided o t m 0 ≡ 0 → (rest : ℕ) → decided o t m rest ≡ rest
+  decided_passed m = chain_passed (decided o t m) (decided_chain m)
 
   -- and one that does not by its number
   pub decided-refused : (m : Message) → decided o t m 0 ≢ 0 → (rest : ℕ) → decided o t m rest ≡ decided o t m 0
-  decided-refused m = chain_refused (decided o t m) (decided-chain m)
+  decided-refused m = chain_refused (decided o t m) (decided_chain m)
 
 pub day_chain : (t : Tables) (from : Sender) (received : ℕ) (l : Place) → Chain (asked10to12 t from received l)
 unfolding asked10to12

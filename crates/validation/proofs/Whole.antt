@@ -11,7 +11,6 @@ use Rattle.rules.specs.Basics.{all_in}
 use Rattle.rules.specs.Rows.{period_end}
 use Rattle.rules.specs.World.{Opening, rows_of}
 use Rattle.rules.specs.WellFormed.{period_right}
-use Rattle.rules.specs.Messages.{is_day, sender_of, body_of, both as both_of, understood}
 use Rattle.rules.proofs.Tests.{both}
 use Rattle.rules.proofs.PeriodsRight.{right_of}
 use Rattle.rules.proofs.Parts.{lengths, formed, dated, links-each}

@@ -14,21 +14,21 @@ use rules::{
 };
 
 // A sender whose role and number are in range, or none.
-#[derive(Drop)]
+#[derive(Clone, Copy)]
 pub enum FoundSender {
     Known(Sender),
     Unknown,
 }
 
 // A body whose fields are in range, or none.
-#[derive(Drop)]
+#[derive(Clone, Copy)]
 pub enum FoundBody {
     Known(Body),
     Unknown,
 }
 
 // A message that question 6 passes, or the refusal.
-#[derive(Drop)]
+#[derive(Clone, Copy)]
 pub enum Understood {
     Passed(Message),
     Refused,

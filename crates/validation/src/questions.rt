@@ -6,7 +6,7 @@ ghost use Rattle.rules.specs.declared.Body.{Body};
 ghost use Rattle.rules.specs.Sizes.{end_of_days, element_size, grid_days_back, holder_size, most_elements, state_size};
 ghost use Rattle.rules.specs.Lines.{tariff};
 ghost use Rattle.rules.specs.World.{grid_company, energinet, is_set, tax, not_existing, closed};
-ghost use Rattle.rules.specs.Lent.{Lists, opening_in, tables_in, lend_data, lend_links, lend_holders, lend_states, lend_blocks, was};
+ghost use Rattle.rules.specs.Lent.{Lists, opening_in, tables_in, lend_data, lend_links, lend_holders, lend_states, lend_blocks};
 ghost use Rattle.rules.specs.Messages.{body_named, understood};
 ghost use Rattle.rules.specs.Questions.{is_grid_company, is_energinet, in_time, may_link, tariff_once};
 ghost use Rattle.rules.specs.Questions.{question9, question13, question14, question15, question16, own_question, own_number};
@@ -211,7 +211,7 @@ pub fn ask_pair(book: Book, point: u64, element: u64) -> Answer
 fn tariff_once(element_data: &[u8], element: u64, quantity: u64) -> Answer
     requires { element * element_size + 2 < length element_data.now }
     ensures { (b : Book) (o : Lists) (p d : ℕ) →
-        number_of result ≡ ask (tariff_once (opening_in b (lend_data (was element_data) o)) (Body.Link p element d quantity)) 8 0 }
+        number_of result ≡ ask (tariff_once (opening_in b (lend_data element_data.now o)) (Body.Link p element d quantity)) 8 0 }
 {
     if kind_of(element_data, element as usize) == TARIFF {
         if quantity == 1 {
@@ -228,7 +228,7 @@ fn tariff_once(element_data: &[u8], element: u64, quantity: u64) -> Answer
 fn ask_place(book: Book, element_data: &[u8], f: Fields) -> Answer
     requires le_kind { (1 ≤ f.kind) × (f.kind ≤ 3) }
     requires elements_le_most_elements { (book.elements ≤ most_elements) × (length element_data.now ≡ book.elements * element_size) }
-    ensures { (o : Lists) → number_of result ≡ asked7to8 (opening_in book (lend_data (was element_data) o)) (body_named f) }
+    ensures { (o : Lists) → number_of result ≡ asked7to8 (opening_in book (lend_data element_data.now o)) (body_named f) }
 {
     let known = ask_pair(book, f.point, f.element);
     if number(known) == 0 {
@@ -245,7 +245,7 @@ fn ask_place(book: Book, element_data: &[u8], f: Fields) -> Answer
 // Questions 7 and 8: is the point in the book, except for a round; of kinds 1 to 3 the element too.
 fn ask_known(book: Book, element_data: &[u8], f: Fields) -> Answer
     requires { (book.elements ≤ most_elements) × (length element_data.now ≡ book.elements * element_size) }
-    ensures { (o : Lists) → number_of result ≡ asked7to8 (opening_in book (lend_data (was element_data) o)) (body_named f) }
+    ensures { (o : Lists) → number_of result ≡ asked7to8 (opening_in book (lend_data element_data.now o)) (body_named f) }
 {
     let kind = f.kind;
     match kind {
@@ -267,7 +267,7 @@ fn may_link_at(
     requires placed { Placed book place }
     requires element_data_len { (length element_data.now ≡ book.elements * element_size) × (length blocks.now ≡ book.points) }
     requires value_rows { ValueRows holder_size holders.now book.holders }
-    ensures { (o : Lists) → let t = lend_data (was element_data) (lend_holders (was holders) (lend_blocks (was blocks) o)) in
+    ensures { (o : Lists) → let t = lend_data element_data.now (lend_holders holders.now (lend_blocks blocks.now o)) in
         result ≡ may_link (opening_in book t) (tables_in book t) sender place }
 {
     let at = place.element as usize;
@@ -294,7 +294,7 @@ fn is_permitted(
     requires known { Known book f }
     requires element_data_len { (length element_data.now ≡ book.elements * element_size) × (length blocks.now ≡ book.points) }
     requires value_rows { ValueRows holder_size holders.now book.holders }
-    ensures { (o : Lists) → let t = lend_data (was element_data) (lend_holders (was holders) (lend_blocks (was blocks) o)) in
+    ensures { (o : Lists) → let t = lend_data element_data.now (lend_holders holders.now (lend_blocks blocks.now o)) in
         result ≡ question9 (opening_in book t) (tables_in book t) sender (body_named f) }
 {
     let kind = f.kind;
@@ -311,7 +311,7 @@ fn ask_day(book: Book, states: &[u64], sender: Sender, received: u64, place: Pla
     requires placed { Placed book place }
     requires value_rows { ValueRows state_size states.now book.states }
     requires received_lt_end_of_days { received < end_of_days }
-    ensures { (o : Lists) → number_of result ≡ asked10to12 (tables_in book (lend_states (was states) o)) sender received place 0 }
+    ensures { (o : Lists) → number_of result ≡ asked10to12 (tables_in book (lend_states states.now o)) sender received place 0 }
 {
     if in_time(sender, received, place.day) {
         state_allows(state_on(book, states, place.point, place.day))
@@ -325,7 +325,7 @@ fn is_free(book: Book, links: &[u64], place: Place) -> Answer
     requires placed { Placed book place }
     requires link_rows { LinkRows links.now book.periods }
     ensures { (o : Lists) → number_of result
-        ≡ ask (question13 (tables_in book (lend_links (was links) o)) place.point place.element place.day) 13 0 }
+        ≡ ask (question13 (tables_in book (lend_links links.now o)) place.point place.element place.day) 13 0 }
 {
     let used = book.periods as usize;
     if quantity_on(links, used, place.point, place.element, place.day) == 0 {
@@ -338,7 +338,7 @@ fn is_free(book: Book, links: &[u64], place: Place) -> Answer
 // Question 14 of the rows of a point and element: some day before the day is linked where the first row starts before it, and some day from
 // it on where the last row ends after it.
 fn spans_day(rows: &[u64], day: u64) -> bool
-    ensures { result ≡ spans_day day (was rows) }
+    ensures { result ≡ spans_day day rows.now }
 {
     if 0 < rows.len() {
         let last = rows.len() - 1;
@@ -357,7 +357,7 @@ fn can_stop(book: Book, links: &[u64], place: Place) -> Answer
     requires placed { Placed book place }
     requires linked { Linked links.now book.periods }
     ensures { (o : Lists) → number_of result
-        ≡ ask (question14 (tables_in book (lend_links (was links) o)) place.point place.element place.day) 14 0 }
+        ≡ ask (question14 (tables_in book (lend_links links.now o)) place.point place.element place.day) 14 0 }
 {
     let used = book.periods as usize;
     let rows = pair_part(links, used, place.point, place.element);
@@ -373,7 +373,7 @@ fn can_change(book: Book, element_data: &[u8], links: &[u64], place: Place) -> A
     requires placed { Placed book place }
     requires element_data_len { length element_data.now ≡ book.elements * element_size }
     requires link_rows { LinkRows links.now book.periods }
-    ensures { (o : Lists) → let t = lend_data (was element_data) (lend_links (was links) o) in
+    ensures { (o : Lists) → let t = lend_data element_data.now (lend_links links.now o) in
         number_of result ≡ ask (question15 (opening_in book t) (tables_in book t) place.point place.element place.day) 15 0 }
 {
     let used = book.periods as usize;
@@ -408,7 +408,7 @@ fn ask_own(book: Book, element_data: &[u8], links: &[u64], f: Fields) -> Answer
     requires le_kind { (1 ≤ f.kind) × (f.kind ≤ 3) × Placed book (place_in f) }
     requires element_data_len { length element_data.now ≡ book.elements * element_size }
     requires linked { Linked links.now book.periods }
-    ensures { (o : Lists) → let t = lend_data (was element_data) (lend_links (was links) o) in
+    ensures { (o : Lists) → let t = lend_data element_data.now (lend_links links.now o) in
         number_of result ≡ ask (own_question (opening_in book t) (tables_in book t) (body_named f)) (own_number (body_named f)) 0 }
 {
     let kind = f.kind;
@@ -432,7 +432,7 @@ fn ask_rest(
     requires known { Known book f × (f.received < end_of_days) }
     requires element_data_len { length element_data.now ≡ book.elements * element_size }
     requires linked { (Linked links.now book.periods) × (ValueRows state_size states.now book.states) }
-    ensures { (o : Lists) → let t = lend_data (was element_data) (lend_links (was links) (lend_states (was states) o)) in
+    ensures { (o : Lists) → let t = lend_data element_data.now (lend_links links.now (lend_states states.now o)) in
         number_of result ≡ asked10to16 (opening_in book t) (tables_in book t) sender f.received (body_named f) }
 {
     let kind = f.kind;
@@ -461,7 +461,7 @@ pub fn decide(
     requires readable { Readable book element_data.now links.now holders.now states.now blocks.now }
     requires f_value { understood book.suppliers f ≡ some m }
     ensures { (o : Lists) → number_of result
-        ≡ decided_in book (asking (was element_data) (was links) (was holders) (was states) (was blocks) o) m }
+        ≡ decided_in book (asking element_data.now links.now holders.now states.now blocks.now o) m }
 {
     let sender = m.sender;
     let known = ask_known(book, element_data, f);

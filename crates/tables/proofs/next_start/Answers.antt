@@ -1,0 +1,19 @@
+-- `tables::next_start` meets its contract: a period is a dated value of its pair.
+use mathlib.Core.Path.{sym, ◌∙◌}
+use lib.ListN.{take}
+use Rattle.tables.proofs.Starts.{link_values, pair_fits, next_dated}
+use Rattle.tables.proofs.next_start.Goals as goal
+use Rattle.tables.proofs.next_start.Goals.{Start}
+
+pub next_record-requires : goal.next_record-requires
+next_record-requires c = let s = (goal.at.next_record-requires c).Start in record {
+  value_rows = link_values s.requires.link_rows;
+  point_fits = pair_fits s.requires.pair_fits;
+  day_fits = s.requires.day_fits;
+}
+
+pub returns : goal.returns
+returns c =
+    let s = (goal.at.returns c).Start in
+    let a = s.args in
+    c.next_record.ensures ∙ sym (next_dated s.requires.pair_fits a.day (take a.used a.table.now))
