@@ -287,8 +287,7 @@ fn run_session<E: Eprint, R: Read, W: Write>(
     requires sized { Sized (given element_data.old prices.old links.old holders.old states.old readings.old blocks.old lines.old sent.old) }
     requires buffer_len { (length buffer.old ≡ buffer_size) × (length records.old ≡ settle_records * record_size)
         × (longest_text ≤ length out.old) }
-    ensures { let before = given element_data.old prices.old links.old holders.old states.old readings.old blocks.old lines.old sent.old in
-        let after = given element_data.new prices.new links.new holders.new states.new readings.new blocks.new lines.new sent.new in
+    ensures { let after = given element_data.new prices.new links.new holders.new states.new readings.new blocks.new lines.new sent.new in
         Ended result after buffer.new }
 {
     let mut session = begin_session();
