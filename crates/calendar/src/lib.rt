@@ -19,7 +19,7 @@ pub const MONTHS: usize = 1200;
 pub const LONGEST_MONTH: usize = 31;
 
 // The first days of the months, and behind them the day after the last.
-const FIRST_DAYS: [u64; MONTHS + 1] = [
+static FIRST_DAYS: [u64; MONTHS + 1] = [
     0, 31, 60, 91, 121, 152, 182, 213, 244, 274, 305, 335, 366, 397, 425, 456, 486, 517, 547, 578,
     609, 639, 670, 700, 731, 762, 790, 821, 851, 882, 912, 943, 974, 1004, 1035, 1065, 1096, 1127,
     1155, 1186, 1216, 1247, 1277, 1308, 1339, 1369, 1400, 1430, 1461, 1492, 1521, 1552, 1582, 1613,
@@ -126,7 +126,8 @@ fn month_number(year: u64, month: u64) -> usize
     ((year - FIRST_YEAR) * YEAR_MONTHS + (month - 1)) as usize
 }
 
-// The first day of a month, 1 to 12, of a year. Linear in the table, which is laid out at each use.
+// The first day of a month, 1 to 12, of a year. Constant: the table is laid out once.
+#[tactic(auto, unfolding(crate::specs::Gregorian::first_day))]
 pub fn first_day(year: u64, month: u64) -> u64
     requires { InRange year month }
     ensures { result ≡ first_day year month }
@@ -134,7 +135,7 @@ pub fn first_day(year: u64, month: u64) -> u64
     first_of(month_number(year, month))
 }
 
-// The number of days of a month, 1 to 12, of a year: up to the first day of the next. Linear in the table, as above.
+// The number of days of a month, 1 to 12, of a year: up to the first day of the next. Constant, as above.
 pub fn days_in_month(year: u64, month: u64) -> u64
     requires { InRange year month }
     ensures { result ≡ days_of_month year month }

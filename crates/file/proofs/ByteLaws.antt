@@ -5,13 +5,11 @@ use mathlib.Core.Path.{◌≡◌, refl}
 use mathlib.Core.List.{List, [], ◌∷◌, ◌++◌}
 use lib.IntN.{pos, negsuc, ◌-ℤ◌}
 use lib.ListN.{length, get_or, take, drop, length-drop}
-use lib.Seq.{take-suc, get_or-drop, drop-drop, take-append-le, drop-append-le}
+use lib.Seq.{take-suc, take-append-le, drop-append-le}
 use lib.Dec.{lit<}
 use native.Mathlib.Nat.{pow-suc, pow-le-pow_right}
 use native.Mathlib.Numerals.{add-one}
 use native.Mathlib.Omega.{arith}
-use mir.Syntax.{w64}
-use mir.Val.{SFits}
 use borrow.Author.Tests.{lt-ltb, le-ltb}
 use Rattle.integers.proofs.Linear.{lin, #, nat, ◌⊝◌}
 use Rattle.file.specs.Bytes.{followed, bytes_number, number_in, twos_complement}
@@ -31,15 +29,9 @@ pub bytes_none : bytes_number [] ≡ 0
 unfolding bytes_number followed
 bytes_none = refl
 
-pub number_none : (bs : List ℕ) (at : ℕ) → number_in bs at 0 ≡ 0
-unfolding number_in bytes_number followed
-number_none bs at = refl
-
-pub number_more : (bs : List ℕ) (at n : ℕ) → at + n < length bs → number_in bs at (n + 1) ≡ number_in bs at n * 256 + get_or bs (at + n) 0
-unfolding number_in bytes_number
-number_more bs at n h =
-    let k : n < length (drop at bs) = rw length-drop (omega arith) in
-    rw (add-one n, take-suc (drop at bs) n 0 k, followed_more 0 (take n (drop at bs)) (get_or (drop at bs) n 0), get_or-drop at bs n 0)
+pub bytes_next : (bs : List ℕ) (i : ℕ) → i < length bs
+    → bytes_number (take (i + 1) bs) ≡ bytes_number (take i bs) * 256 + get_or bs i 0
+bytes_next bs i h = rw (add-one i, take-suc bs i 0 h) (bytes_more (take i bs) (get_or bs i 0))
 
 -- ---- the size of a number of i bytes
 
@@ -50,10 +42,6 @@ pub fits_more : (v i : ℕ) → v < 256 ^ i → i < 8 → v * 256 + 255 < 184467
 fits_more v i h k = let m : 256 ^ i ≤ 256 ^ 7 = pow-le-pow_right {n = 256} (lit< tt) {j = 7} (omega arith) in omega arith
 
 -- ---- places
-
-pub number-from : (bs : List ℕ) (from at n : ℕ) → number_in (drop from bs) at n ≡ number_in bs (from + at) n
-unfolding number_in
-number-from bs from at n = rw (drop-drop at from bs)
 
 -- what follows does not matter
 pub number-front : (bs rest : List ℕ) (at n : ℕ) → at + n ≤ length bs → number_in (bs ++ rest) at n ≡ number_in bs at n
@@ -74,7 +62,3 @@ unfolding twos_complement
 high_half n h k =
     rw (le-ltb n 9223372036854775808 h)
     (lin (# (negsuc 0) ⊝ nat (18446744073709551615 - n)) (nat n ⊝ nat 18446744073709551616) (omega arith))
-
--- from the high half on the number is below zero, and fits
-pub below-zero-fits : (k : ℕ) → k < 9223372036854775808 → SFits w64 (negsuc 0 -ℤ pos k)
-below-zero-fits k h = rw (lin (# (negsuc 0) ⊝ nat k) (# (negsuc k)) (omega arith)) (record { sfits = h })

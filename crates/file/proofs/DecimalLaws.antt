@@ -58,12 +58,6 @@ decimal-length (suc k) n h = cases (ltb n 10)
     let l : n < 10 ^ suc k * 10 = rw pow-suc at h in
     rw (decimal_more n (ltb-false n 10 t), length-append) (omega (arith, decimal-length k (n / 10) (omega arith))))
 
-pub length_more : (n : ℕ) → 10 ≤ n → length (decimal n) ≡ length (decimal (n / 10)) + 1
-length_more n h = rw (decimal_more n h) (length-append (decimal (n / 10)) (digit (n % 10) ∷ []))
-
-pub last-digit : (n : ℕ) → length (decimal (n / 10)) + 1 ≤ length (decimal (n / 10) ++ (digit (n % 10) ∷ []))
-last-digit n = rw length-append (omega arith)
-
 -- a number of 64 bits
 pub decimal-short : (n : ℕ) → n < 18446744073709551616 → length (decimal n) ≤ 20
 decimal-short n h = decimal-length 19 n (omega arith)
@@ -72,14 +66,6 @@ pub some-digit : (n : ℕ) → 0 < length (decimal n)
 some-digit n = cases (ltb n 10)
     (λ t. rw (decimal-small n (ltb-true n 10 t)) (omega arith))
     (λ t. rw (decimal_more n (ltb-false n 10 t), length-append) (omega arith))
-
--- a tenth part has no more digits
-pub length_tenth : (n : ℕ) → length (decimal (n / 10)) ≤ length (decimal n)
-length_tenth n = cases (ltb n 10)
-    (λ t.
-    let small : n < 10 = ltb-true n 10 t in
-    rw (decimal-small (n / 10) (omega arith)) (omega (arith, some-digit n)))
-    (λ t. omega (arith, length_more n (ltb-false n 10 t)))
 
 -- ---- checks of the definition, which no proof cites
 

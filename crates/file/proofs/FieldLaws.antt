@@ -1,9 +1,10 @@
 -- Laws of one field: what each test on the way says of `field_in`, that the whole rest of the input decides as `field_of` does, and that
 -- what was decided before the input's end does not depend on what follows. Everything is by cases on the tests, over the first six bytes.
 -- Assumes nothing.
-use Prim.Native.Nat.{ℕ, suc, ◌+◌, ◌-◌, ◌/◌, ◌%◌, ◌≤◌, ◌<◌}
-use mathlib.Core.Path.{◌≡◌, sym, ap, ◌∙◌}
+use Prim.Native.Nat.{ℕ, suc, ◌+◌, ◌/◌, ◌%◌, ◌≤◌, ◌<◌}
+use mathlib.Core.Path.{◌≡◌, sym, ◌∙◌}
 use mathlib.Core.Logic.{◌⊎◌, inl, inr}
+use Rattle.std.specs.Prelude.{None}
 use mathlib.Core.Bool.{Bool, true, false, ◌&&◌, and-false}
 use mathlib.Core.List.{List, [], ◌∷◌, ◌++◌}
 use lib.ListN.{length, drop, length-drop, length-append}
@@ -14,11 +15,10 @@ use Rattle.rules.proofs.Tests.{cases, both}
 use Rattle.file.specs.declared.fields.Phase.{Phase}
 use Rattle.file.specs.declared.fields.Found.{Found}
 use Rattle.file.specs.declared.fields.Found.TheVariants.{More, Broken}
-use Rattle.file.specs.Bytes.{number_in}
 use Rattle.file.specs.Field.{header_size, hourly_length, tag_of, length_of, marks_in, tag_allowed, element_length, length_due, header_right}
 use Rattle.file.specs.Field.{month_in, message_fields, field_named, right_field, whole_field, field_of, cut_off, field_in, field_size}
-use Rattle.file.specs.Field.{RightField, Inside}
-use Rattle.file.proofs.ByteLaws.{number-from, number-front}
+use Rattle.file.specs.Field.{tag_numbered, Inside}
+use Rattle.file.proofs.ByteLaws.{number-front}
 
 -- ---- the length that is due
 
@@ -46,17 +46,20 @@ pub right-length : (phase : Phase) (tag n marks : ℕ) → header_right phase ta
 unfolding header_right
 right-length phase tag n marks h = eqb-true n (length_due tag marks) (both (tag_allowed phase tag) _ h).1
 
--- ---- room for a right field that starts at a place
-
-module _ (bytes : List ℕ) (at tag n : ℕ) (h : RightField (drop at bytes) tag n) where
-  field_room : at + (3 + n) ≤ length bytes
-  field_room = let k = rw length-drop at h.whole in omega arith
-
-  pub month-room : tag ≡ 1 → at + 9 ≤ length bytes
-  month-room e = let k : n ≡ 6 = h.due ∙ due-month tag _ e in omega (arith, field_room)
-
-  pub message-room : (tag ≡ 1 → ⊥) → (tag ≡ 2 → ⊥) → at + 22 ≤ length bytes
-  message-room d e = let k : n ≡ 19 = h.due ∙ due-message tag _ d e in omega (arith, field_room)
+-- a number that no tag has may not come next
+pub unknown_tag : (phase : Phase) (number : ℕ) → tag_numbered number ≡ None → tag_allowed phase number ≡ false
+unfolding tag_allowed
+unknown_tag Phase.Start number h = cases (eqb number 1) (λ t. let k = rw t at h in cc) (λ t. t)
+unknown_tag Phase.Elements number h = cases (eqb number 1)
+    (λ t. let k = rw t at h in cc)
+    (λ t. cases (eqb number 2)
+    (λ u. let k = rw (t, u) at h in cc)
+    (λ u. cases (eqb number 3) (λ v. let k = rw (t, u, v) at h in cc) (λ v. rw (u, v))))
+unknown_tag Phase.Messages number h = cases (eqb number 1)
+    (λ t. let k = rw t at h in cc)
+    (λ t. cases (eqb number 2)
+    (λ u. let k = rw (t, u) at h in cc)
+    (λ u. cases (eqb number 3) (λ v. let k = rw (t, u, v) at h in cc) (λ v. v)))
 
 -- ---- the tests of `field_in`
 
@@ -78,62 +81,6 @@ module _ (bytes : List ℕ) (phase : Phase) (ended : Bool) where
       → field_in bytes phase ended ≡ field_named bytes
   unfolding field_in whole_field
   in_whole h w k = rw (le-ltb (length bytes) 6 h, w, le-leb (3 + length_of bytes) (length bytes) k)
-
--- ---- the same of a place of a slice, where the code's tests speak of the slice
-
-pub at-short : (s : List ℕ) (at : ℕ) (phase : Phase) (ended : Bool) → length s - at < 6
-    → cut_off (length s - at) ended ≡ field_in (drop at s) phase ended
-at-short s at phase ended h =
-    let k : length (drop at s) < 6 = rw length-drop h in
-    rw (in_short (drop at s) phase ended k, length-drop at s)
-
--- a header was read at a place with room for one
-pub record HeaderRead (s : List ℕ) (at tag n marks : ℕ) : Type 0 where
-  pub have : 6 ≤ length s - at
-  pub tagged : tag ≡ number_in s at 1
-  pub sized : n ≡ number_in s (at + 1) 2
-  pub marked : marks ≡ number_in s (at + 5) 1
-
-module _ {s : List ℕ} {at tag n marks : ℕ} (phase : Phase) (ended : Bool) (h : HeaderRead s at tag n marks) where
-  enough : 6 ≤ length (drop at s)
-  enough = rw length-drop h.have
-
-  tag_here : tag ≡ tag_of (drop at s)
-  unfolding tag_of
-  tag_here = h.tagged ∙ ap (λ k. number_in s k 1) (omega arith) ∙ sym (number-from s at 0 1)
-
-  length-here : n ≡ length_of (drop at s)
-  unfolding length_of
-  length-here = h.sized ∙ sym (number-from s at 1 2)
-
-  right-here : right_field phase (drop at s) ≡ header_right phase tag n marks
-  unfolding right_field marks_in
-  right-here = rw (← tag_here, ← length-here, number-from s at 5 1, ← h.marked)
-
-  pub at_wrong : header_right phase tag n marks ≡ false → Broken ≡ field_in (drop at s) phase ended
-  at_wrong w = rw (in_wrong (drop at s) phase ended enough (right-here ∙ w))
-
-  pub at_cut : header_right phase tag n marks ≡ true → length s - at - 3 < n
-      → cut_off (length s - at) ended ≡ field_in (drop at s) phase ended
-  at_cut w k =
-      let m = h.have in
-      let l : length (drop at s) < 3 + length_of (drop at s) = rw (length-drop at s, ← length-here) (omega arith) in
-      rw (in_cut (drop at s) phase ended enough (right-here ∙ w) l, length-drop at s)
-
-  pub right-at : header_right phase tag n marks ≡ true → n ≤ length s - at - 3 → RightField (drop at s) tag n
-  unfolding marks_in
-  right-at w k =
-      let l = h.have in
-      record {
-        tagged = tag_here;
-        sized = length-here;
-        due = right-length phase tag n marks w ∙ ap (λ m. length_due tag m) (h.marked ∙ sym (number-from s at 5 1));
-        whole = rw (length-drop at s) (omega arith);
-      }
-
-  pub at-whole : header_right phase tag n marks ≡ true → n ≤ length s - at - 3 → field_in (drop at s) phase ended ≡ field_named (drop at s)
-  at-whole w k =
-      let l = h.have in in_whole (drop at s) phase ended enough (right-here ∙ w) (rw (length-drop at s, ← length-here) (omega arith))
 
 -- ---- all that is left of the input: `field_in` decides as `field_of` does
 

@@ -1,12 +1,11 @@
 -- Laws of the definitions, each file above what it cites.
 pub mod ByteLaws
 pub mod FieldLaws
-pub mod SizeLaws
 pub mod PlacedLaws
 pub mod DecimalLaws
 pub mod ElementLaws
-pub mod SignLaws
 pub mod EncodeLaws
 pub mod ProgramLaws
+pub mod TextLaws
 pub mod PrintedLaws
 pub mod CasesHold

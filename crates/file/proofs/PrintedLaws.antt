@@ -4,7 +4,7 @@ use Prim.Native.Nat.{ℕ, zero, suc, ◌+◌, ◌<◌, ◌≤◌}
 use mathlib.Core.Path.{◌≡◌, refl, sym, ap, ap₂, ◌∙◌}
 use mathlib.Core.Bool.{false}
 use mathlib.Core.List.{List, [], ◌∷◌, ◌++◌, flat_map, append-nil, append_assoc}
-use mathlib.Core.Option.{Option, some}
+use Rattle.std.specs.Prelude.{Option, Some}
 use lib.ListN.{length, take, drop, length-replicate, length-append}
 use lib.Dec.{leb, eqb}
 use native.Mathlib.Omega.{arith}
@@ -88,7 +88,7 @@ messages-text (suc most) bytes w number = on_message_lem (field_of bytes Phase.M
 -- ---- the opening
 
 opens-text : (o : Opening) (ms : Messages) (more : World → List ℕ) → ((w : World) → more w ≡ rest-text w ms 1)
-    → open_then o more ≡ text_of (output_of (some (record { opening = o; messages = ms })))
+    → open_then o more ≡ text_of (output_of (Some (record { opening = o; messages = ms })))
 unfolding open_then output_of ended_by
 opens-text o ms more h = cases (eqb (settle_answer o) 0)
     (λ t. rw (t, h (opened (lent_for o))) (unfold text_of line_text in refl))
@@ -246,7 +246,7 @@ opening-accepted o h = cases (leb o.points settle_points)
     (λ t. let z : 2 ≡ 0 = rw t at h in absurd (omega arith))
 
 -- A file whose opening is accepted: what is printed for it has demand 3.
-module _ (bytes : List ℕ) (c : Contents) (h : contents_of bytes ≡ some c) (a : settle_answer c.opening ≡ 0) where
+module _ (bytes : List ℕ) (c : Contents) (h : contents_of bytes ≡ Some c) (a : settle_answer c.opening ≡ 0) where
   whole-text : settled bytes ≡ text_of (lines_to c.opening c.messages.fields ++ end_lines c.messages.broken)
   unfolding output_of
   whole-text = settled-text bytes ∙ rw (h, a)

@@ -1,6 +1,6 @@
 -- What a file holds: a month with its elements, and messages in order. Read by the same steps as `settled`, with nothing settled.
 use Rattle.std.specs.Prelude.{ℕ, zero, suc, ◌+◌, Bool, true, false, List, [], ◌∷◌, ◌++◌, length, take, drop}
-use Rattle.std.proofs.Math.Option.{Option, none, some}
+use Rattle.std.specs.Prelude.{Option, None, Some}
 use Rattle.rules.specs.declared.Fields.{Fields}
 use Rattle.rules.specs.World.{Opening}
 use Rattle.file.specs.declared.fields.Phase.{Phase}
@@ -41,14 +41,14 @@ pub record Contents : Type 0 where
 unfoldable pub elements_at : (found : Found) → (bytes : List ℕ) → (heading : Heading) → (values : List (List ℕ))
     → (more : (next : ℕ) → List (List ℕ) → Option Contents) → (messages : Messages) → Option Contents
 elements_at (Element size) bytes h values more ms = more (header_size + size) (values ++ (take size (drop header_size bytes) ∷ []))
-elements_at (Message f) bytes h values more ms = some (record { opening = collected h values; messages = ms })
-elements_at End bytes h values more ms = some (record { opening = collected h values; messages = no_messages false })
-elements_at (Month year month points suppliers) bytes h values more ms = none
-elements_at More bytes h values more ms = none
-elements_at Broken bytes h values more ms = none
+elements_at (Message f) bytes h values more ms = Some (record { opening = collected h values; messages = ms })
+elements_at End bytes h values more ms = Some (record { opening = collected h values; messages = no_messages false })
+elements_at (Month year month points suppliers) bytes h values more ms = None
+elements_at More bytes h values more ms = None
+elements_at Broken bytes h values more ms = None
 
 unfoldable pub elements_in : (most : ℕ) → (bytes : List ℕ) → (heading : Heading) → (values : List (List ℕ)) → Option Contents
-elements_in zero bytes h values = none
+elements_in zero bytes h values = None
 elements_in (suc most) bytes h values =
     elements_at (field_of bytes Phase.Elements) bytes h values
     (λ next read. elements_in most (drop next bytes) h read)
@@ -57,11 +57,11 @@ elements_in (suc most) bytes h values =
 unfoldable pub month_at : (found : Found) → (more : Heading → Option Contents) → Option Contents
 month_at (Month year month points suppliers) more =
     more (record { year = year; month = month; points = points; suppliers = suppliers })
-month_at (Element size) more = none
-month_at (Message f) more = none
-month_at End more = none
-month_at More more = none
-month_at Broken more = none
+month_at (Element size) more = None
+month_at (Message f) more = None
+month_at End more = None
+month_at More more = None
+month_at Broken more = None
 
 unfoldable pub contents_of : (bytes : List ℕ) → Option Contents
 contents_of bytes = month_at (field_of bytes Phase.Start) (λ h. elements_in (length bytes) (drop month_size bytes) h [])

@@ -1,13 +1,15 @@
 -- One field of the file: "fields of a one-byte tag, a two-byte length, high byte first, and a value". Places are counted from the field's
 -- tag.
 use Rattle.std.specs.Prelude.{ℕ, ◌+◌, ◌/◌, ◌%◌, ◌≤◌, ◌≡◌, Bool, true, ◌&&◌, ◌||◌, cond, List, [], ◌∷◌, T, leb, ltb, eqb}
+use Rattle.std.specs.Prelude.{Option, Some, None}
 use lib.ListN.{length}
 use Rattle.rules.specs.Sizes.{element_size}
 use Rattle.rules.specs.World.{hourly}
 use Rattle.rules.specs.declared.Fields.{Fields}
-use Rattle.rules.specs.declared.Answer.TheVariants.{BrokenField}
-use Rattle.rules.specs.Answers.{number_of}
+use Rattle.rules.specs.declared.Refusal.TheVariants.{BrokenField}
+use Rattle.rules.specs.Answers.{refusal_number}
 use Rattle.file.specs.declared.fields.Phase.{Phase}
+use Rattle.file.specs.declared.fields.Tag.{Tag}
 use Rattle.file.specs.declared.fields.Found.{Found}
 use Rattle.file.specs.declared.fields.Found.TheVariants.{Month, Element, Message, End, More, Broken}
 use Rattle.file.specs.Bytes.{number_in}
@@ -67,6 +69,18 @@ length_of bytes = number_in bytes 1 2
 -- the third byte of the value, where tag 2 has its marks
 unfoldable pub marks_in : (bytes : List ℕ) → ℕ
 marks_in bytes = number_in bytes 5 1
+
+-- a tag's number, and the tag of a number, where it is one of the three
+abbrev pub tag_number : Tag → ℕ
+tag_number Tag.Month = month_tag
+tag_number Tag.Element = element_tag
+tag_number Tag.Message = message_tag
+
+abbrev pub tag_numbered : (number : ℕ) → Option Tag
+tag_numbered number =
+    cond (eqb number month_tag) (Some Tag.Month)
+    (cond (eqb number element_tag) (Some Tag.Element)
+    (cond (eqb number message_tag) (Some Tag.Message) None))
 
 -- "Tag 1 (.. first, once)", "Tag 3 (.. after all tag 2)"
 unfoldable pub tag_allowed : (phase : Phase) → (tag : ℕ) → Bool
@@ -133,7 +147,7 @@ found_number (Element length) = 0
 found_number (Message fields) = 0
 found_number End = 0
 found_number More = 0
-found_number Broken = number_of BrokenField
+found_number Broken = refusal_number BrokenField
 
 -- how many bytes the field has: none where there is no whole one
 unfoldable pub field_size : Found → ℕ
@@ -156,6 +170,11 @@ field_in bytes phase ended =
     (cond (right_field phase bytes)
     (cond (whole_field bytes) (field_named bytes) (cut_off (length bytes) ended))
     Broken)
+
+-- the field at the front of the bytes has this tag, and tag, length and order are right
+pub record RightTag (phase : Phase) (bytes : List ℕ) (tag : ℕ) : Type 0 where
+  pub right : right_field phase bytes ≡ true
+  pub tagged : tag ≡ tag_of bytes
 
 -- the field at the front of the bytes has this tag and this length, the one that is due, and is whole
 pub record RightField (bytes : List ℕ) (tag length : ℕ) : Type 0 where

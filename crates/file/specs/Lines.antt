@@ -2,6 +2,7 @@
 use Rattle.std.specs.Prelude.{ℕ, ◌+◌, ◌≤◌, ◌≡◌, List, [], ◌∷◌, ◌++◌, ℤ, length}
 use Rattle.rules.specs.declared.Line.{Line}
 use Rattle.rules.specs.declared.Record.{Record}
+use Rattle.file.specs.declared.output.Text.{Text}
 use Rattle.file.specs.Bytes.{placed}
 use Rattle.file.specs.Decimal.{decimal, signed_decimal}
 
@@ -80,3 +81,14 @@ pub record Written (most : ℕ) (before after : List ℕ) (at next : ℕ) (text 
   pub is : after ≡ placed before at text
   pub end : next ≡ at + length text
   pub short : length text ≤ most
+
+-- a text that grows in a list has room for so many bytes more
+abbrev pub HasRoom : Text → (most : ℕ) → Type 0
+HasRoom text most = text.at + most ≤ length text.out.now
+
+-- more of it, at most `most` bytes, was put behind what there was of it, in the same list
+pub record Puts (most : ℕ) (before after : Text) (more : List ℕ) : Type 0 where
+  pub same_reference : after.out.ghost_name ≡ before.out.ghost_name
+  pub long : length after.out.now ≡ length before.out.now
+  pub within : after.at ≤ length after.out.now
+  pub written : Written most before.out.now after.out.now before.at after.at more

@@ -1,7 +1,7 @@
 -- What is printed for a file, line by line, and demand 3 of it: `settle` prints the claim's run over the file's messages.
 use Rattle.std.specs.Prelude.{ℕ, suc, ◌+◌, ◌≡◌, Bool, cond, length, replicate, eqb}
 use mathlib.Core.List.{List, [], ◌∷◌, ◌++◌, Memᴰ}
-use Rattle.std.proofs.Math.Option.{Option, none, some}
+use Rattle.std.specs.Prelude.{Option, None, Some}
 use Rattle.rules.specs.declared.Fields.{Fields}
 use Rattle.rules.specs.declared.Record.{Record}
 use Rattle.rules.specs.Lines.{Measure}
@@ -66,8 +66,8 @@ abbrev pub lines_to : Opening → List Fields → List OutputLine
 lines_to o fs = book o ∷ lines_from (opened (lent_for o)) fs 1
 
 unfoldable pub output_of : Option Contents → List OutputLine
-output_of none = refused 0 1 ∷ []
-output_of (some c) =
+output_of None = refused 0 1 ∷ []
+output_of (Some c) =
     cond (eqb (settle_answer c.opening) 0)
     (lines_to c.opening c.messages.fields ++ end_lines c.messages.broken)
     (refused 0 (settle_answer c.opening) ∷ [])

@@ -1,13 +1,13 @@
 // The fields of a file, document 01, "File and program": taken off bytes, whatever they are, and an element's value put into the tables of
 // the book.
-ghost use Rattle.std.specs.Prelude.{◌≡◌, ◌+◌, ◌≤◌, ◌<◌, length, take, drop};
-ghost use Rattle.file.specs.Bytes.{word_bytes, word_room, number_in, twos_complement, placed};
-ghost use Rattle.file.specs.Field.{month_size, message_size, tag_allowed, element_length, length_due, header_right, cut_off};
+ghost use Rattle.std.specs.Prelude.{◌≡◌, ◌+◌, ◌≤◌, ◌<◌, false, length, take, drop, MatchOption};
+ghost use Rattle.file.specs.Bytes.{word_bytes, word_room, bytes_number, number_in};
+ghost use Rattle.file.specs.Field.{month_size, message_size, tag_number, tag_numbered, tag_allowed, element_length, length_due, cut_off};
+ghost use Rattle.file.specs.Field.{head_size, length_of, right_field, RightTag};
 ghost use Rattle.file.specs.Field.{month_in, message_fields, field_named, RightField, field_in, field_size};
 ghost use Rattle.file.specs.Element.{price_at, prices_in, element_bytes, element_prices, ElementRoom};
 ghost use Rattle.rules.specs.Sizes.{price_places};
 
-use crate::output::put_bytes;
 use rules::{ELEMENT_SIZE, Fields, HOURLY, PRICE_PLACES};
 
 // ---- lengths are of values, sizes of whole fields
@@ -15,13 +15,9 @@ use rules::{ELEMENT_SIZE, Fields, HOURLY, PRICE_PLACES};
 // Tag and length.
 pub const HEADER_SIZE: usize = 3;
 
-const MONTH_TAG: u64 = 1;
-
 const MONTH_LENGTH: usize = 6;
 
 const MONTH_SIZE: usize = HEADER_SIZE + MONTH_LENGTH;
-
-const ELEMENT_TAG: u64 = 2;
 
 // Kind, owner and marks, and 24 prices or one.
 const HOURLY_LENGTH: usize = 195;
@@ -29,8 +25,6 @@ const HOURLY_LENGTH: usize = 195;
 const ONE_PRICE_LENGTH: usize = 11;
 
 const PRICE_BYTES: usize = 8;
-
-const MESSAGE_TAG: u64 = 3;
 
 const MESSAGE_LENGTH: usize = 19;
 
@@ -41,23 +35,29 @@ const HEAD_SIZE: usize = HEADER_SIZE + ELEMENT_SIZE;
 
 // ---- numbers, high byte first
 
-// The values of a byte; the first number of 64 bits that stands for a negative one.
+// The values of a byte.
 const BYTE_ROOM: u64 = 256;
 
-const FIRST_NEGATIVE: u64 = 9223372036854775808;
+// The number of the bytes; 64 bits have room for eight.
+#[tactic(auto, unfolding(crate::specs::Bytes::bytes_number, crate::specs::Bytes::followed))]
+fn number_of(bytes: &[u8]) -> u64
+    requires { length bytes.now ≤ word_bytes }
+    ensures { result ≡ bytes_number bytes.now }
+{
+    let mut value = 0;
+    for byte in bytes {
+        value = value * BYTE_ROOM + u64::from(*byte);
+    }
+    value
+}
 
-// The number in the n bytes from a place on; 64 bits have room for eight.
+// The number in the n bytes from a place on.
+#[tactic(auto, unfolding(crate::specs::Bytes::number_in))]
 pub fn number_at(s: &[u8], at: usize, n: usize) -> u64
     requires { (n ≤ word_bytes) × (at + n ≤ length s.now) }
     ensures { result ≡ number_in s.now at n }
 {
-    let mut value: u64 = 0;
-    let mut i = 0;
-    while i < n {
-        value = value * BYTE_ROOM + (s[at + i] as u64);
-        i += 1;
-    }
-    value
+    number_of(&s[at..at + n])
 }
 
 // ---- fields
@@ -70,7 +70,7 @@ pub enum Phase {
     Messages,
 }
 
-// What stands at a place of the input.
+// What stands at a place of the input. Callers tell all six apart in one match, which a Result of an Option of a field would nest.
 #[derive(Clone, Copy)]
 pub enum Found {
     // tag 1
@@ -96,108 +96,151 @@ pub enum Found {
     Broken,
 }
 
-fn tag_allowed(phase: Phase, tag: u64) -> bool
-    ensures { result ≡ tag_allowed phase tag }
-{
-    match phase {
-        Phase::Start => tag == MONTH_TAG,
-        Phase::Elements => if tag == ELEMENT_TAG {
-            true
-        } else {
-            tag == MESSAGE_TAG
-        },
-        Phase::Messages => tag == MESSAGE_TAG,
+// What a field holds, by its tag.
+#[derive(Clone, Copy, PartialEq, Eq)]
+enum Tag {
+    Month,
+    Element,
+    Message,
+}
+
+impl Tag {
+    fn numbered(number: u64) -> Option<Tag>
+        ensures { result ≡ tag_numbered number }
+    {
+        match number {
+            1 => Some(Tag::Month),
+            2 => Some(Tag::Element),
+            3 => Some(Tag::Message),
+            _ => None,
+        }
+    }
+
+    #[tactic(auto, unfolding(crate::specs::Field::tag_allowed))]
+    fn is_allowed(self, phase: Phase) -> bool
+        ensures { result ≡ tag_allowed phase (tag_number self) }
+    {
+        match phase {
+            Phase::Start => self == Tag::Month,
+            Phase::Elements => self != Tag::Month,
+            Phase::Messages => self == Tag::Message,
+        }
+    }
+
+    // The length that a field of this tag has.
+    #[tactic(auto, unfolding(crate::specs::Field::length_due))]
+    fn length_due(self, marks: u64) -> usize
+        ensures { result ≡ length_due (tag_number self) marks }
+    {
+        match self {
+            Tag::Month => MONTH_LENGTH,
+            Tag::Element => element_length(marks),
+            Tag::Message => MESSAGE_LENGTH,
+        }
     }
 }
 
-// The length that a field of this tag has.
-fn length_due(tag: u64, marks: u64) -> u64
-    ensures { result ≡ length_due tag marks }
-{
-    if tag == MONTH_TAG {
-        MONTH_LENGTH as u64
-    } else if tag == ELEMENT_TAG {
-        element_length(marks)
-    } else {
-        MESSAGE_LENGTH as u64
-    }
-}
-
-fn element_length(marks: u64) -> u64
+// How long the value of an element is, by its marks, a byte of the file.
+#[tactic(auto, unfolding(crate::specs::Field::element_length))]
+fn element_length(marks: u64) -> usize
     ensures { result ≡ element_length marks }
 {
     if marks / HOURLY % 2 == 1 {
-        HOURLY_LENGTH as u64
+        HOURLY_LENGTH
     } else {
-        ONE_PRICE_LENGTH as u64
-    }
-}
-
-fn header_right(phase: Phase, tag: u64, length: u64, marks: u64) -> bool
-    ensures { result ≡ header_right phase tag length marks }
-{
-    if tag_allowed(phase, tag) {
-        length == length_due(tag, marks)
-    } else {
-        false
+        ONE_PRICE_LENGTH
     }
 }
 
 // The bytes end within a field, or before one.
+#[tactic(auto, unfolding(crate::specs::Field::cut_off))]
 fn cut_off(have: usize, ended: bool) -> Found
     ensures { result ≡ cut_off have ended }
 {
-    if ended {
-        if have == 0 { Found::End } else { Found::Broken }
-    } else {
+    if !ended {
         Found::More
+    } else if have == 0 {
+        Found::End
+    } else {
+        Found::Broken
     }
 }
 
-// The month in a field at a place.
-fn month_at(s: &[u8], at: usize) -> Found
-    requires { at + month_size ≤ length s.now }
-    ensures { result ≡ month_in (drop at s.now) }
+// The month in a field at the front.
+#[tactic(auto, unfolding(crate::specs::Field::month_in))]
+fn month_in(bytes: &[u8]) -> Found
+    requires { month_size ≤ length bytes.now }
+    ensures { result ≡ month_in bytes.now }
 {
     Found::Month {
-        year: number_at(s, at + 3, 2),
-        month: number_at(s, at + 5, 1),
-        points: number_at(s, at + 6, 2),
-        suppliers: number_at(s, at + 8, 1),
+        year: number_at(bytes, 3, 2),
+        month: number_at(bytes, 5, 1),
+        points: number_at(bytes, 6, 2),
+        suppliers: number_at(bytes, 8, 1),
     }
 }
 
-// The message in a field at a place.
-fn fields_at(s: &[u8], at: usize) -> Fields
-    requires { at + message_size ≤ length s.now }
-    ensures { result ≡ message_fields (drop at s.now) }
+// The message in a field at the front.
+#[tactic(auto, unfolding(crate::specs::Field::message_fields))]
+fn message_fields(bytes: &[u8]) -> Fields
+    requires { message_size ≤ length bytes.now }
+    ensures { result ≡ message_fields bytes.now }
 {
     Fields {
-        kind: number_at(s, at + 3, 1),
-        role: number_at(s, at + 4, 1),
-        sender: number_at(s, at + 5, 1),
-        received: number_at(s, at + 6, 4),
-        point: number_at(s, at + 10, 2),
-        element: number_at(s, at + 12, 1),
-        day: number_at(s, at + 13, 4),
-        hour: number_at(s, at + 17, 1),
-        value: number_at(s, at + 18, 4),
+        kind: number_at(bytes, 3, 1),
+        role: number_at(bytes, 4, 1),
+        sender: number_at(bytes, 5, 1),
+        received: number_at(bytes, 6, 4),
+        point: number_at(bytes, 10, 2),
+        element: number_at(bytes, 12, 1),
+        day: number_at(bytes, 13, 4),
+        hour: number_at(bytes, 17, 1),
+        value: number_at(bytes, 18, 4),
     }
 }
 
 // A field that is whole and right.
-fn field_named(s: &[u8], at: usize, tag: u64, length: usize) -> Found
-    requires { RightField (drop at s.now) tag length }
-    ensures { result ≡ field_named (drop at s.now) }
+#[tactic(auto, unfolding(crate::specs::Field::field_named, crate::specs::Field::length_due))]
+fn field_named(bytes: &[u8], tag: Tag, length: usize) -> Found
+    requires { RightField bytes.now (tag_number tag) length }
+    ensures { result ≡ field_named bytes.now }
 {
-    if tag == MONTH_TAG {
-        month_at(s, at)
-    } else if tag == ELEMENT_TAG {
-        Found::Element { length }
-    } else {
-        Found::Message {
-            fields: fields_at(s, at),
-        }
+    match tag {
+        Tag::Month => month_in(bytes),
+        Tag::Element => Found::Element { length },
+        Tag::Message => Found::Message {
+            fields: message_fields(bytes),
+        },
+    }
+}
+
+// The tag of the field at the front, where it may come next and the length is the one that is due.
+#[tactic(auto, using(crate::proofs::FieldLaws::unknown_tag), unfolding(crate::specs::Field::right_field, crate::specs::Field::header_right, crate::specs::Field::marks_in, crate::specs::Field::tag_of))]
+fn right_tag(bytes: &[u8], phase: Phase, len: usize) -> Option<Tag>
+    requires { (head_size ≤ length bytes.now) × (len ≡ length_of bytes.now) }
+    ensures { MatchOption result (right_field phase bytes.now ≡ false) (λ tag. RightTag phase bytes.now (tag_number tag)) }
+{
+    let marks = number_at(bytes, 5, 1);
+    match Tag::numbered(number_at(bytes, 0, 1)) {
+        Some(tag) if tag.is_allowed(phase) && len == tag.length_due(marks) => Some(tag),
+        _ => None,
+    }
+}
+
+// The field at the front.
+#[tactic(auto, unfolding(crate::specs::Field::field_in, crate::specs::Field::whole_field, crate::specs::Field::length_of))]
+fn front_field(bytes: &[u8], phase: Phase, ended: bool) -> Found
+    ensures { result ≡ field_in bytes.now phase ended }
+{
+    let have = bytes.len();
+    if have < HEAD_SIZE {
+        return cut_off(have, ended);
+    }
+    let length = number_at(bytes, 1, 2) as usize;
+    match right_tag(bytes, phase, length) {
+        Some(tag) if length <= have - HEADER_SIZE => field_named(bytes, tag, length),
+        Some(_) => cut_off(have, ended),
+        None => Found::Broken,
     }
 }
 
@@ -206,34 +249,22 @@ pub fn field_at(s: &[u8], at: usize, phase: Phase, ended: bool) -> Found
     requires { at ≤ length s.now }
     ensures { result ≡ field_in (drop at s.now) phase ended }
 {
-    let have = s.len() - at;
-    if have < HEAD_SIZE {
-        return cut_off(have, ended);
-    }
-    let tag = number_at(s, at, 1);
-    let length = number_at(s, at + 1, 2) as usize;
-    let marks = number_at(s, at + 5, 1);
-    if header_right(phase, tag, length as u64, marks) {
-        if length <= have - HEADER_SIZE {
-            field_named(s, at, tag, length)
-        } else {
-            cut_off(have, ended)
-        }
-    } else {
-        Found::Broken
-    }
+    front_field(&s[at..], phase, ended)
 }
 
-// How many bytes it has: none where there is no whole field.
-fn field_size(found: Found) -> usize
-    requires { field_size found < word_room }
-    ensures { result ≡ field_size found }
-{
-    match found {
-        Found::Month { .. } => MONTH_SIZE,
-        Found::Element { length } => HEADER_SIZE + length,
-        Found::Message { .. } => MESSAGE_SIZE,
-        _ => 0,
+impl Found {
+    // How many bytes the field has: none where there is no whole one.
+    #[tactic(auto, unfolding(crate::specs::Field::field_size))]
+    fn size(self) -> usize
+        requires { field_size self < word_room }
+        ensures { result ≡ field_size self }
+    {
+        match self {
+            Found::Month { .. } => MONTH_SIZE,
+            Found::Element { length } => HEADER_SIZE + length,
+            Found::Message { .. } => MESSAGE_SIZE,
+            Found::End | Found::More | Found::Broken => 0,
+        }
     }
 }
 
@@ -242,47 +273,37 @@ pub fn place_behind(at: usize, found: Found) -> usize
     requires { at + field_size found < word_room }
     ensures { result ≡ at + field_size found }
 {
-    at + field_size(found)
+    at + found.size()
 }
 
 // ---- an element's value
 
-// A number of 64 bits in two's complement, as a signed number.
-fn signed(n: u64) -> i64
-    ensures { result ≡ twos_complement n }
+// Price k of a value, or 0 where it has fewer.
+#[tactic(auto, unfolding(crate::specs::Element::price_at, crate::specs::Bytes::signed64, crate::specs::Bytes::number_in, crate::specs::Bytes::twos_complement))]
+fn price_at(value: &[u8], k: usize) -> i64
+    requires { k < price_places }
+    ensures { result ≡ price_at value.now k }
 {
-    if n < FIRST_NEGATIVE {
-        n as i64
-    } else {
-        -1 - ((u64::MAX - n) as i64)
-    }
-}
-
-// Price k of the value of `size` bytes at a place, or 0 where it has fewer.
-fn price_at(s: &[u8], at: usize, size: usize, k: usize) -> i64
-    requires { (at + size ≤ length s.now) × (k < price_places) }
-    ensures { result ≡ price_at (take size (drop at s.now)) k }
-{
-    if ONE_PRICE_LENGTH + PRICE_BYTES * k <= size {
-        signed(number_at(s, at + (ELEMENT_SIZE + PRICE_BYTES * k), PRICE_BYTES))
+    if ONE_PRICE_LENGTH + PRICE_BYTES * k <= value.len() {
+        number_at(value, ELEMENT_SIZE + PRICE_BYTES * k, PRICE_BYTES).cast_signed()
     } else {
         0
     }
 }
 
-// The 24 prices of the value, from a place of the table on.
-fn put_prices(prices: &mut [i64], place: usize, s: &[u8], at: usize, size: usize)
-    requires { (at + size ≤ length s.now) × (place + price_places ≤ length prices.old) }
-    ensures { prices.new ≡ placed prices.old place (prices_in (take size (drop at s.now))) }
+// The 24 prices of a value.
+#[tactic(auto, unfolding(crate::specs::Element::prices_in, rules::specs::Basics::list_to))]
+fn put_prices(prices: &mut [i64], value: &[u8])
+    requires { length prices.old ≡ price_places }
+    ensures { prices.new ≡ prices_in value.now }
 {
-    let mut k = 0;
-    while k < PRICE_PLACES {
-        prices[place + k] = price_at(s, at, size, k);
-        k += 1;
+    for (k, price) in prices.iter_mut().enumerate() {
+        *price = price_at(value, k);
     }
 }
 
 // Puts the value of an element field, `size` bytes at a place, into the tables as element e: three bytes and 24 prices.
+#[tactic(auto, unfolding(crate::specs::Element::element_bytes, crate::specs::Element::element_prices, crate::specs::Bytes::placed))]
 pub fn read_element(
     s: &[u8],
     at: usize,
@@ -295,6 +316,9 @@ pub fn read_element(
     ensures described { element_data.new ≡ element_bytes element_data.old e (take size (drop at s.now)) }
     ensures priced { prices.new ≡ element_prices prices.old e (take size (drop at s.now)) }
 {
-    put_bytes(element_data, e * ELEMENT_SIZE, &s[at..at + ELEMENT_SIZE]);
-    put_prices(prices, e * PRICE_PLACES, s, at, size);
+    let value = &s[at..at + size];
+    let head = e * ELEMENT_SIZE;
+    element_data[head..head + ELEMENT_SIZE].copy_from_slice(&value[..ELEMENT_SIZE]);
+    let first = e * PRICE_PLACES;
+    put_prices(&mut prices[first..first + PRICE_PLACES], value);
 }

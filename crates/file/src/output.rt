@@ -1,10 +1,10 @@
 // The printed lines of document 01, "File and program": their text, byte for byte.
-ghost use Rattle.std.specs.Prelude.{◌≡◌, [], ◌∷◌, ◌+◌, ◌≤◌, ◌<◌, nat_abs, length};
+ghost use Rattle.std.specs.Prelude.{◌+◌, ◌≤◌, [], ◌∷◌, length};
 ghost use Rattle.file.specs.Decimal.{decimal};
-ghost use Rattle.file.specs.Lines.{number_then, signed_then, measures_then, book_line, record_names, record_line, refused_line};
-ghost use Rattle.file.specs.Lines.{number_width, signed_width, names_width, measures_width, longest_line, Written};
+ghost use Rattle.file.specs.Lines.{number_then, signed_then, measures_then, book_line, record_line, refused_line};
+ghost use Rattle.file.specs.Lines.{number_width, signed_width, measures_width, longest_line, Written, HasRoom, Puts};
 
-use integers::{is_negative, magnitude};
+use itoa::{Buffer, Integer};
 use rules::{Line, Record};
 
 // Room for a number of 64 bits and the byte behind it.
@@ -13,118 +13,94 @@ pub const NUMBER_WIDTH: usize = 21;
 // Room for the longest line, which is a record's.
 pub const LONGEST_LINE: usize = 200;
 
-// ---- bytes put into a list
+// ---- a text that grows in a list
 
-// One byte; the answer is the place behind it.
-fn put_byte(out: &mut [u8], at: usize, b: u8) -> usize
-    requires { at < length out.old }
-    ensures { Written 1 out.old out.new at result (b ∷ []) }
-{
-    out[at] = b;
-    at + 1
+// The list that it was lent, and the place behind what was put there. Not by `Display` and `write!`: std promises what they write only
+// after an `Ok`, and no clause says that a write to memory is one, while `Written` of a line holds always.
+#[derive(Drop)]
+pub struct Text<'a> {
+    pub out: &'a mut [u8],
+    pub at: usize,
 }
 
-// All bytes of a text.
-pub fn put_bytes(out: &mut [u8], at: usize, text: &[u8]) -> usize
-    requires { at + length text.now ≤ length out.old }
-    ensures { Written (length text.now) out.old out.new at result text.now }
-{
-    let mut i = 0;
-    while i < text.len() {
-        out[at + i] = text[i];
-        i += 1;
+impl Text<'_> {
+    // All bytes of a text.
+    pub fn bytes(&mut self, text: &[u8])
+        requires { HasRoom self.old (length text.now) }
+        ensures { Puts (length text.now) self.old self.new text.now }
+    {
+        let end = self.at + text.len();
+        self.out[self.at..end].copy_from_slice(text);
+        self.at = end;
     }
-    at + i
-}
 
-// ---- numbers as printed
-
-// The character 0.
-const ZERO_DIGIT: u64 = 48;
-
-// The first number of two digits.
-const TWO_DIGITS: u64 = 10;
-
-// A number in decimal, without leading zeros.
-pub fn put_number(out: &mut [u8], at: usize, n: u64) -> usize
-    requires { at + length (decimal n) ≤ length out.old }
-    ensures { Written (length (decimal n)) out.old out.new at result (decimal n) }
-{
-    if n < TWO_DIGITS {
-        put_byte(out, at, (ZERO_DIGIT + n) as u8)
-    } else {
-        let next = put_number(out, at, n / 10);
-        put_byte(out, next, (ZERO_DIGIT + n % 10) as u8)
+    fn byte(&mut self, b: u8)
+        requires { HasRoom self.old 1 }
+        ensures { Puts 1 self.old self.new (b ∷ []) }
+    {
+        self.bytes(&[b]);
     }
-}
 
-// A number and the byte behind it.
-pub fn put_number_then(out: &mut [u8], at: usize, n: u64, after: u8) -> usize
-    requires { at + number_width ≤ length out.old }
-    ensures { Written number_width out.old out.new at result (number_then n after) }
-{
-    let next = put_number(out, at, n);
-    put_byte(out, next, after)
-}
-
-// The size of a number without its sign.
-fn size_of(z: i64) -> u64
-    ensures { result ≡ nat_abs z }
-{
-    if is_negative(z) {
-        magnitude(z + 1) + 1
-    } else {
-        z as u64
+    // An integer in decimal, without leading zeros, and with a minus sign where it is negative.
+    fn integer<I: Integer>(&mut self, n: I)
+        requires { HasRoom self.old (length (I.text n)) }
+        ensures { Puts (length (I.text n)) self.old self.new (I.text n) }
+    {
+        let mut digits = Buffer::new();
+        self.bytes(digits.format(n).as_bytes());
     }
-}
 
-// A signed number, with a minus sign where it is negative, and the byte behind it.
-pub fn put_signed_then(out: &mut [u8], at: usize, z: i64, after: u8) -> usize
-    requires { at + signed_width ≤ length out.old }
-    ensures { Written signed_width out.old out.new at result (signed_then z after) }
-{
-    let size = size_of(z);
-    if is_negative(z) {
-        let next = put_byte(out, at, b'-');
-        put_number_then(out, next, size, after)
-    } else {
-        put_number_then(out, at, size, after)
+    #[tactic(auto, using(crate::proofs::TextLaws::printed))]
+    pub fn number(&mut self, n: u64)
+        requires { HasRoom self.old (length (decimal n)) }
+        ensures { Puts (length (decimal n)) self.old self.new (decimal n) }
+    {
+        self.integer(n);
+    }
+
+    // A number and the byte behind it.
+    pub fn number_then(&mut self, n: u64, after: u8)
+        requires { HasRoom self.old number_width }
+        ensures { Puts number_width self.old self.new (number_then n after) }
+    {
+        self.number(n);
+        self.byte(after);
+    }
+
+    // A signed number and the byte behind it.
+    pub fn signed_then(&mut self, z: i64, after: u8)
+        requires { HasRoom self.old signed_width }
+        ensures { Puts signed_width self.old self.new (signed_then z after) }
+    {
+        self.integer(z);
+        self.byte(after);
+    }
+
+    // A quantity, kroner and billionths, and the byte behind them.
+    fn measures(&mut self, line: Line, after: u8)
+        requires { HasRoom self.old measures_width }
+        ensures { Puts measures_width self.old self.new (measures_then line after) }
+    {
+        self.signed_then(line.quantity, b' ');
+        self.signed_then(line.kroner, b' ');
+        self.number_then(line.billionths, after);
     }
 }
 
-// ---- lines
+// ---- lines; the answer is the place behind one
 
 // `book`: year, month, days, first day.
 pub fn put_book(out: &mut [u8], at: usize, year: u64, month: u64, days: u64, first: u64) -> usize
     requires { at + longest_line ≤ length out.old }
     ensures { Written longest_line out.old out.new at result (book_line year month days first) }
 {
-    let word = put_bytes(out, at, b"book ");
-    let next = put_number_then(out, word, year, b' ');
-    let next = put_number_then(out, next, month, b' ');
-    let next = put_number_then(out, next, days, b' ');
-    put_number_then(out, next, first, b'\n')
-}
-
-// The first part of a record's line: what it is about.
-fn put_record_names(out: &mut [u8], at: usize, kind: u64, supplier: u64, element: u64) -> usize
-    requires { at + names_width ≤ length out.old }
-    ensures { Written names_width out.old out.new at result (record_names kind supplier element) }
-{
-    let word = put_bytes(out, at, b"record ");
-    let next = put_number_then(out, word, kind, b' ');
-    let next = put_number_then(out, next, supplier, b' ');
-    put_number_then(out, next, element, b' ')
-}
-
-// A quantity, kroner and billionths, and the byte behind them.
-fn put_measures(out: &mut [u8], at: usize, line: Line, after: u8) -> usize
-    requires { at + measures_width ≤ length out.old }
-    ensures { Written measures_width out.old out.new at result (measures_then line after) }
-{
-    let next = put_signed_then(out, at, line.quantity, b' ');
-    let next = put_signed_then(out, next, line.kroner, b' ');
-    put_number_then(out, next, line.billionths, after)
+    let mut line = Text { out, at };
+    line.bytes(b"book ");
+    line.number_then(year, b' ');
+    line.number_then(month, b' ');
+    line.number_then(days, b' ');
+    line.number_then(first, b'\n');
+    line.at
 }
 
 // `record`: kind, supplier, element, quantity, kroner, billionths, and the balance's quantity, kroner, billionths.
@@ -132,19 +108,24 @@ pub fn put_record(out: &mut [u8], at: usize, r: Record) -> usize
     requires { at + longest_line ≤ length out.old }
     ensures { Written longest_line out.old out.new at result (record_line r) }
 {
-    let moved = r.moved;
-    let balance = r.balance;
-    let next = put_record_names(out, at, r.kind, r.supplier, r.element);
-    let next = put_measures(out, next, moved, b' ');
-    put_measures(out, next, balance, b'\n')
+    let mut line = Text { out, at };
+    line.bytes(b"record ");
+    line.number_then(r.kind, b' ');
+    line.number_then(r.supplier, b' ');
+    line.number_then(r.element, b' ');
+    line.measures(r.moved, b' ');
+    line.measures(r.balance, b'\n');
+    line.at
 }
 
-// `refused`: message number, question.
+// `refused`: message number, question: numbers, as the entry points for C answer them.
 pub fn put_refused(out: &mut [u8], at: usize, message: u64, question: u64) -> usize
     requires { at + longest_line ≤ length out.old }
     ensures { Written longest_line out.old out.new at result (refused_line message question) }
 {
-    let word = put_bytes(out, at, b"refused ");
-    let next = put_number_then(out, word, message, b' ');
-    put_number_then(out, next, question, b'\n')
+    let mut line = Text { out, at };
+    line.bytes(b"refused ");
+    line.number_then(message, b' ');
+    line.number_then(question, b'\n');
+    line.at
 }

@@ -13,37 +13,39 @@ pub struct Reader<'a> {
     pub at: usize,
 }
 
-// A reader of the bytes, at a place.
-pub fn reader_at<'a>(bytes: &'a [u8], at: usize) -> Reader<'a>
-    ensures { (result.bytes ≡ bytes.entry) × (result.at ≡ at) }
-{
-    Reader { bytes, at }
-}
-
-// The field at the reader's place.
-pub fn field<'a>(r: Reader<'a>, phase: Phase, ended: bool) -> Found
-    requires { r.at ≤ length r.bytes.now }
-    ensures { result ≡ field_in (drop r.entry.at r.entry.bytes.now) phase ended }
-{
-    field_at(r.bytes, r.at, phase, ended)
-}
-
-// The reader behind a field that it has found.
-pub fn behind<'a>(r: Reader<'a>, found: Found) -> Reader<'a>
-    requires { r.at + field_size found ≤ length r.bytes.now }
-    ensures { (result.bytes ≡ r.entry.bytes) × (result.at ≡ r.entry.at + field_size found) }
-{
-    Reader {
-        bytes: r.bytes,
-        at: place_behind(r.at, found),
+impl<'a> Reader<'a> {
+    // A reader of the bytes, at a place.
+    pub fn new(bytes: &'a [u8], at: usize) -> Reader<'a>
+        ensures { (result.bytes ≡ bytes.entry) × (result.at ≡ at) }
+    {
+        Reader { bytes, at }
     }
-}
 
-// How far the reader has come.
-pub fn place<'a>(r: Reader<'a>) -> usize
-    ensures { result ≡ r.entry.at }
-{
-    r.at
+    // The field at the reader's place.
+    pub fn field(self, phase: Phase, ended: bool) -> Found
+        requires { self.at ≤ length self.bytes.now }
+        ensures { result ≡ field_in (drop self.entry.at self.entry.bytes.now) phase ended }
+    {
+        field_at(self.bytes, self.at, phase, ended)
+    }
+
+    // The reader behind a field that it has found.
+    pub fn behind(self, found: Found) -> Reader<'a>
+        requires { self.at + field_size found ≤ length self.bytes.now }
+        ensures { (result.bytes ≡ self.entry.bytes) × (result.at ≡ self.entry.at + field_size found) }
+    {
+        Reader {
+            at: place_behind(self.at, found),
+            ..self
+        }
+    }
+
+    // How far the reader has come.
+    pub fn place(self) -> usize
+        ensures { result ≡ self.entry.at }
+    {
+        self.at
+    }
 }
 
 // What a reader has found, and how far it has come behind it.
@@ -58,10 +60,10 @@ pub fn read(bytes: &[u8], at: usize, phase: Phase, ended: bool) -> Located
     requires { at ≤ length bytes.now }
     ensures { result ≡ located_at bytes.now at phase ended }
 {
-    let r = reader_at(bytes, at);
-    let found = field(r, phase, ended);
+    let reader = Reader::new(bytes, at);
+    let found = reader.field(phase, ended);
     Located {
         found,
-        place: place(behind(r, found)),
+        place: reader.behind(found).place(),
     }
 }

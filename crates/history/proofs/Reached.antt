@@ -1,7 +1,7 @@
 -- A run from an opened book is the run that demand 3 speaks of. By the function's promise and the proof of demand 3; the records are read
 -- back from the list number by number.
 use Prim.Native.Nat.{ℕ, zero, suc, ◌+◌, ◌-◌, ◌≤◌, ◌<◌}
-use mathlib.Core.Path.{◌≡◌, refl, sym, ap, ap₂, subst, ◌∙◌}
+use mathlib.Core.Path.{◌≡◌, refl, sym, ap, ap₂, ◌∙◌}
 use mathlib.Core.Logic.{◌≢◌}
 use mathlib.Core.List.{List, [], ◌∷◌, ◌++◌, append_assoc, Memᴰ}
 use lib.IntN.{ℤ}
@@ -9,13 +9,11 @@ use lib.ListN.{length, get_or, drop, length-append}
 use lib.Seq.{get_or_at, get_or-append-add}
 use native.Mathlib.Omega.{arith}
 use borrow.Author.Tests.{ne_eqb}
-use Rattle.rules.specs.declared.Book.{Book}
 use Rattle.rules.specs.declared.Fields.{Fields}
 use Rattle.rules.specs.declared.Record.{Record}
 use Rattle.rules.specs.Lines.{Measure}
 use Rattle.rules.specs.World.{World, InBook}
 use Rattle.rules.specs.Effects.{no_record, answer, step, records_of}
-use Rattle.rules.specs.WellFormed.{question2, question3, question4}
 use Rattle.rules.specs.Opening.{opening_answer, opened, after_opening}
 use Rattle.rules.specs.Queries.{line_query, named}
 use Rattle.rules.specs.Claim.{Event, History, advance, advance_all, begin, Split, up_to, total, balance_of, LastBalance, LastStands, Holds}
@@ -23,11 +21,7 @@ use Rattle.rules.proofs.Demand3.{demand3, advance-append, advance_snoc, records_
 use Rattle.rules.proofs.Ranges.{get_d_list_to}
 use Rattle.ledger.specs.RecordNumbers.{numbers_after, record_at}
 use Rattle.ledger.proofs.RecordNumbers.{records-read}
-use Rattle.rules.specs.Lent.{Lists, world_in}
-use Rattle.recording.specs.Opened.{named_book, fresh_book}
 use Rattle.settlement.specs.Replies.{room_in}
-use Rattle.settlement_book.specs.Numbers.{SizedBook, book_in, numbers_in, fresh_in}
-use Rattle.settlement_book.specs.Promises.{OpensIn}
 use Rattle.history.specs.Runs.{lent_with, events_from, run_from, answers_to, Followed}
 use Rattle.history.specs.FromOpening.{records_in, events_of, reached_by, FromOpening, OpensAndRuns}
 use Rattle.history.proofs.Turns.{places_left, world_left, events_append, answers-append, events_more, length-answers, front_read}
@@ -178,59 +172,27 @@ pub run-from-opening : (w start after : World) (fs : List Fields) (count : ℕ) 
 run-from-opening w start after fs count lent out table answered a e g = from-opened w after fs count lent out table answered a (rw e at g)
 
 -- For a function that opens the world w and runs the list from what that leaves.
-module _ (w : World) (a : ℕ) (n : a ≡ opening_answer w) (fs : List Fields) where
-  pub opening-refused : a ≢ 0 → (after : World) → after ≡ w → (lent : List ℤ) (table : List ℕ)
-      → OpensAndRuns w after fs a 0 lent lent table table
-  opening-refused z after k lent table = record {
-    number = n;
-    followed = λ e. absurd (z e);
-    kept = λ e. absurd (z e);
-    refused = λ _. (k, refl, refl, refl);
-  }
-
-  pub opened_and_run : a ≡ 0 → (mid after : World) (count : ℕ) (lent out : List ℤ) (table answered : List ℕ)
-      → mid ≡ opened w → Followed mid after fs count lent out table answered → OpensAndRuns w after fs a count lent out table answered
-  opened_and_run z mid after count lent out table answered s g =
+module _ (w mid : World) (m : mid ≡ after_opening w) (fs : List Fields) where
+  pub opening-refused : (a : ℕ) → a ≡ opening_answer w → a ≢ 0 → (lent : List ℤ) (table : List ℕ)
+      → OpensAndRuns w mid fs a 0 lent lent table table
+  unfolding after_opening
+  opening-refused a n z lent table =
+      let k : mid ≡ w = m ∙ rw (ne_eqb (opening_answer w) 0 (λ e. z (n ∙ e))) in
       record {
         number = n;
-        followed = λ _. rw s at g;
-        kept = λ _. run-from-opening w mid after fs count lent out table answered (sym n ∙ z) s g;
-        refused = λ x. absurd (x z);
+        followed = λ e. absurd (z e);
+        kept = λ e. absurd (z e);
+        refused = λ _. (k, refl, refl, refl);
       }
 
--- ---- the opening of a named book's numbers
-
-module _ (year month points suppliers elements : ℕ) (named : Book) (numbers out : List ℕ) (o after : Lists) (a : ℕ)
-    (f : named ≡ named_book year month points suppliers elements) (p : numbers ≡ numbers_in named)
-    (h : SizedBook numbers → OpensIn (world_in (fresh_in numbers) o) (world_in (fresh_in numbers) after) numbers out a) where
-  abbrev fresh : Book
-  fresh = fresh_book year month points suppliers elements
-
-  abbrev begins : World
-  begins = world_in (named_book year month points suppliers elements) o
-
-  opens : OpensIn (world_in fresh o) (world_in fresh after) numbers out a
-  opens = subst (λ (ns : List ℕ). OpensIn (world_in (fresh_in ns) o) (world_in (fresh_in ns) after) numbers out a) (p ∙ ap numbers_in f)
-      (h (ap length p))
-
-  pub named-number : a ≡ opening_answer begins
-  unfolding opening_answer question2 question3 question4
-  named-number = opens.number
-
-  -- a refused one leaves everything as it was
-  pub named-refused : a ≢ 0 → world_in named after ≡ begins
+  pub opened_and_run : opening_answer w ≡ 0 → (after : World) (count : ℕ) (lent out : List ℤ) (table answered : List ℕ)
+      → Followed mid after fs count lent out table answered → OpensAndRuns w after fs 0 count lent out table answered
   unfolding after_opening
-  named-refused z =
-      let same : world_in fresh after ≡ world_in fresh o =
-      opens.world ∙ rw (ne_eqb (opening_answer (world_in fresh o)) 0 (λ e. z (opens.number ∙ e))) in
-      rw f (ap (λ (w : World). record { opening = w.opening; position = w.position; sent = w.sent; dates = begins.dates }) same)
-
-  -- and an accepted one the opened book, whose numbers are put
-  pub named-opened : a ≡ 0 → (b : Book) → b ≡ book_in out → world_in b after ≡ opened begins
-  unfolding after_opening opened
-  named-opened z b e =
-      let k : opening_answer (world_in fresh o) ≡ 0 = sym opens.number ∙ z in
-      let put : out ≡ numbers_in fresh = opens.book ∙ rw k in
-      let same-book : b ≡ fresh = e ∙ ap book_in put in
-      let same : world_in fresh after ≡ opened (world_in fresh o) = opens.world ∙ rw k in
-      ap (λ (x : Book). world_in x after) same-book ∙ same
+  opened_and_run z after count lent out table answered g =
+      let s : mid ≡ opened w = m ∙ rw z in
+      record {
+        number = sym z;
+        followed = λ _. rw s at g;
+        kept = λ _. run-from-opening w mid after fs count lent out table answered z s g;
+        refused = λ x. absurd (x refl);
+      }

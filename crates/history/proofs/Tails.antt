@@ -6,9 +6,10 @@ use lib.ListN.{length, take, drop, length-drop}
 use lib.Seq.{length-take-le, take_all, drop_at, drop-length}
 use lib.IntN.{ℤ}
 use native.Mathlib.Omega.{arith}
+use Rattle.std.specs.Prelude.{Result}
 use Rattle.rules.specs.declared.Fields.{Fields}
+use Rattle.rules.specs.declared.Refusal.{Refusal}
 use Rattle.rules.specs.World.{World}
-use Rattle.settlement.specs.declared.Reply.{Reply}
 use Rattle.settlement.specs.Replies.{Replied}
 use borrow.Rule.Slice.PartMut.{mid_of, put_mid, Post-is, take_put}
 
@@ -24,7 +25,7 @@ module _ {A : Type 0} (at : ℕ) (xs : List A) where
     front_stays = take_put at (length xs - at) xs ys h
 
 -- a message that was lent the tail
-pub replied_tail : (mid after : World) (f : Fields) (r : Reply) (list ys : List ℤ) (at : ℕ) → at ≤ length list
+pub replied_tail : (mid after : World) (f : Fields) (r : Result ℕ Refusal) (list ys : List ℤ) (at : ℕ) → at ≤ length list
     → Replied mid after f r (mid_of at (length list - at) list) ys
     → Replied mid after f r (drop at list) (drop at (put_mid at (length list - at) list ys))
     × (take at (put_mid at (length list - at) list ys) ≡ take at list)

@@ -8,7 +8,9 @@ use lib.ListN.{length, take, drop, set, replicate, length-append, length-drop, l
 use lib.Seq.{drop-cons, drop-drop, take_at, drop_at, set_at}
 use native.Mathlib.Omega.{arith}
 use native.Mathlib.Numerals.{add-one}
+use Rattle.std.specs.Prelude.{Result}
 use Rattle.rules.specs.declared.Fields.{Fields}
+use Rattle.rules.specs.declared.Refusal.{Refusal}
 use Rattle.rules.specs.declared.Record.{Record}
 use Rattle.rules.specs.Answers.{number_of}
 use Rattle.rules.specs.Basics.{list_to}
@@ -21,8 +23,7 @@ use Rattle.rules.proofs.Demand3.{advance_snoc}
 use Rattle.rules.proofs.Ranges.{length-list_to}
 use Rattle.ledger.specs.RecordNumbers.{numbers_of, numbers_after, record_numbers, record_at}
 use Rattle.ledger.proofs.RecordNumbers.{length-numbers, length-after, numbers_none, records-read}
-use Rattle.settlement.specs.declared.Reply.{Reply}
-use Rattle.settlement.specs.Replies.{room_in, Replied}
+use Rattle.settlement.specs.Replies.{room_in, count_of, Replied}
 use Rattle.history.specs.Runs.{fields_at, messages_of, lent_with, events_from, run_from, answers_to, Followed}
 
 -- ---- a lent list counts by its length
@@ -172,10 +173,10 @@ module _ (w mid : World) (fs : List Fields) (count : ℕ) (lent list : List ℤ)
       let d = length-drop (count * record_size) list in
       omega arith
 
-  module _ (after : World) (f : Fields) (r : Reply) (out : List ℤ)
+  module _ (after : World) (f : Fields) (r : Result ℕ Refusal) (out : List ℤ)
       (q : Replied mid after f r (drop (count * record_size) list) (drop (count * record_size) out)) where
     -- the records of one message more fit too
-    pub next_fits : count + r.records ≤ length lent / record_size
+    pub next_fits : count + count_of r ≤ length lent / record_size
     next_fits =
         let k = records_fit mid f (room_in (drop (count * record_size) list)) in
         let n = q.count in
@@ -210,14 +211,14 @@ module _ (w mid : World) (fs : List Fields) (count : ℕ) (lent list : List ℤ)
         (q.list ∙ ap (numbers_after ss) (ap (drop (count * record_size)) g.list ∙ behind_them rs ss lent count g.count-is))
         ∙ numbers-behind rs ss lent count g.count-is ∙ ap (λ x. numbers_after x lent) written_more
 
-    count_more : count + r.records ≡ length (run_from w (fs ++ (f ∷ [])) (room_in lent)).records
+    count_more : count + count_of r ≡ length (run_from w (fs ++ (f ∷ [])) (room_in lent)).records
     count_more = ap₂ (λ (a b : ℕ). a + b) g.count-is q.count ∙ sym (length-append h.records _) ∙ ap length written_more
 
-    answer-is : number_of r.answer ≡ answer h.world f (length (replicate room no_record))
+    answer-is : number_of r ≡ answer h.world f (length (replicate room no_record))
     answer-is = q.number ∙ rw (room-left, g.world, any-long room)
 
     answers-after : length fs < length table
-        → set answered (length fs) (number_of r.answer) ≡ answers_to w (events_from w (fs ++ (f ∷ [])) (room_in lent)) ++ drop
+        → set answered (length fs) (number_of r) ≡ answers_to w (events_from w (fs ++ (f ∷ [])) (room_in lent)) ++ drop
         (length (fs ++ (f ∷ []))) table
     unfolding lent_with begin
     answers-after l =
@@ -232,8 +233,8 @@ module _ (w mid : World) (fs : List Fields) (count : ℕ) (lent list : List ℤ)
         (answer_put (answers_to w (events_from w fs (room_in lent))) table (length fs) _ (length-answers w fs (room_in lent) w) l)
 
     pub followed_more : take (count * record_size) out ≡ take (count * record_size) list → (given : List ℕ)
-        → given ≡ set answered (length fs) (number_of r.answer) → length fs < length table
-        → Followed w after (fs ++ (f ∷ [])) (count + r.records) lent out table given
+        → given ≡ set answered (length fs) (number_of r) → length fs < length table
+        → Followed w after (fs ++ (f ∷ [])) (count + count_of r) lent out table given
     followed_more p given s l =
         record {
           world = world_more;
@@ -258,10 +259,10 @@ module _ (w mid : World) (inputs : List ℕ) (i count : ℕ) (lent list : List �
   answered-same l = answered-long w mid (messages_of inputs i) count lent list table answered g (rw (length-messages inputs i) l)
 
   -- one turn of the loop
-  pub followed_turn : (after : World) (f : Fields) (r : Reply) (out : List ℤ) (n : ℕ) → i < length table → f ≡ fields_at inputs i
+  pub followed_turn : (after : World) (f : Fields) (r : Result ℕ Refusal) (out : List ℤ) (n : ℕ) → i < length table → f ≡ fields_at inputs i
       → Replied mid after f r (drop (count * record_size) list) (drop (count * record_size) out)
-      → take (count * record_size) out ≡ take (count * record_size) list → n ≡ number_of r.answer
-      → Followed w after (messages_of inputs (i + 1)) (count + r.records) lent out table (set answered i n)
+      → take (count * record_size) out ≡ take (count * record_size) list → n ≡ number_of r
+      → Followed w after (messages_of inputs (i + 1)) (count + count_of r) lent out table (set answered i n)
   followed_turn after f r out n l e q p a =
       let k = length-messages inputs i in
       rw (messages_more inputs i, ← e)

@@ -58,8 +58,8 @@ pub record FromOpening (w after : World) (fs : List Fields) (count : ℕ) (lent 
       → balance_of (record_at out i)
       ≡ line_query (reached_by w (up_to x) lent).world (record_at out i).supplier (record_at out i).element
 
--- what a function promises that opens a month in the world w, where no row is in use, and then runs the list: the rules' run and demand
--- 3 where the opening is accepted, and everything as it was where it is refused
+-- what a function promises that opens a month in the world w and then runs the list: the rules' run and demand 3 where the opening is
+-- accepted, and everything as it was where it is refused
 pub record OpensAndRuns (w after : World) (fs : List Fields) (answer count : ℕ) (lent out : List ℤ) (table answered : List ℕ) : Type 0 where
   pub number : answer ≡ opening_answer w
   pub followed : answer ≡ 0 → Followed (opened w) after fs count lent out table answered

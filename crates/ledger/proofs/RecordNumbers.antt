@@ -4,7 +4,7 @@ use mathlib.Core.List.{List, [], ◌∷◌, ◌++◌, append_assoc, append-nil}
 use Prim.Native.Nat.{ℕ, zero, suc, ◌+◌, ◌*◌, ◌≤◌, ◌<◌}
 use native.Mathlib.Omega.{arith}
 use lib.IntN.{ℤ, pos}
-use lib.ListN.{length, get_or, set, take, drop, length-append, length-drop}
+use lib.ListN.{length, get_or, take, drop, length-append, length-drop}
 use lib.Seq.{ext_get_or, sets, sets-eq, take_at, drop-append-add, drop-drop}
 use Rattle.rules.specs.Sizes.{record_size}
 use Rattle.rules.specs.declared.Record.{Record}
@@ -58,19 +58,6 @@ numbers_put rs r lent n e h =
     ∙ drop-append-add (numbers_of rs) rest record_size ∙ drop-drop record_size (n * record_size) lent
     ∙ ap (λ m. drop m lent) (let z : n * record_size + record_size ≡ suc n * record_size = omega arith in z))
     ∙ ap₂ (λ (a : List ℤ) (m : ℕ). a ++ drop (m * record_size) lent) (sym (numbers_more rs r)) (sym k))
-
--- stores behind others
-sets_append : (xs us vs : List ℤ) (at next : ℕ) → next ≡ at + length us → sets (sets xs at us) next vs ≡ sets xs at (us ++ vs)
-sets_append xs [] vs at next e = let z : next ≡ at = omega arith in rw z
-sets_append xs (u ∷ us) vs at next e = sets_append (set xs at u) us vs (suc at) next (omega arith)
-
-pub record_stores : (xs : List ℤ) (at : ℕ) (r : Record)
-    → sets (sets (sets xs at (name_numbers r)) (at + moved_place) (line_numbers r.moved)) (at + balance_place) (line_numbers r.balance)
-    ≡ sets xs at (record_numbers r)
-unfolding record_numbers name_numbers line_numbers
-record_stores xs at r =
-    rw (sets_append xs (name_numbers r) (line_numbers r.moved) at (at + moved_place) refl)
-    (sets_append xs (name_numbers r ++ line_numbers r.moved) (line_numbers r.balance) at (at + balance_place) refl)
 
 -- ---- records that stand as numbers are read as they were written
 

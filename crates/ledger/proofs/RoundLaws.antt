@@ -33,6 +33,15 @@ use Rattle.rules.specs.declared.Line.{Line}
 use Rattle.ledger.specs.Bounds.{LineOf}
 use Rattle.ledger.specs.RecordNumbers.{record_numbers, numbers_after}
 use Rattle.ledger.proofs.RecordNumbers.{length-after, numbers_put}
+use Rattle.std.proofs.Common.{not}
+use Rattle.std.specs.List.{filter, count_by, range_with_len}
+use Rattle.std.proofs.lemmas.List.{map-id}
+use Rattle.std.proofs.lemmas.List.Sums.{length-filter}
+use Rattle.std.proofs.lemmas.List.FromFn.{sum_by-map-range_with_len_more}
+use lib.Pointwise.{pointwise}
+use Rattle.std.specs.Ordering.{int_eq}
+use Rattle.std.specs.Cmp.Rules.{signed_items}
+use Rattle.ledger.proofs.LineNumbers.{three_numbers}
 use Rattle.ledger.proofs.Bounds.{line-is, stored-within, stored_is}
 use Rattle.ledger.specs.Moved.{moved_by, unmoved_at, lines_in, line_record, line_records, moved_count, line_copied, Comparable, Settled}
 use Rattle.ledger.specs.Moved.{Sendable, LineSent}
@@ -43,14 +52,6 @@ pub same_test : (a b : Bool) → (a ≡ true → b ≡ true) → (b ≡ true →
 same_test true b f g = sym (f refl)
 same_test false true f g = g refl
 same_test false false f g = refl
-
-pub not_so : (a : Bool) → (a ≡ true → ⊥) → a ≡ false
-not_so true f = absurd (f refl)
-not_so false f = refl
-
-pub zero_or_one : (u : Bool) (n : ℕ) → n ≡ cond u 0 1 → n ≤ 1
-zero_or_one true n e = omega arith
-zero_or_one false n e = omega arith
 
 -- ---- a line that has not moved
 
@@ -98,6 +99,21 @@ module _ (ls ts : List ℤ) (at : ℕ) where
         rw (quantity-same, kroner-same, billionths-same, set-get_or ts at (pos 0), set-get_or ts (at + 1) (pos 0))
         (sym (set-get_or ts (at + 2) (pos 0)))
 
+same_three : (a b c d e f : ℤ) → (a ∷ b ∷ c ∷ []) ≡ (d ∷ e ∷ f ∷ []) → (a ≡ d) × (b ≡ e) × (c ≡ f)
+same_three a b c d e f h = (cc, cc, cc)
+
+-- so a comparison of the three numbers tells
+pub unmoved-is : (ls ts : List ℤ) (at n : ℕ) → n ≡ line_size → Comparable ls ts at
+    → pointwise int_eq (take n (drop at ls)) (take n (drop at ts)) ≡ unmoved_at ls ts at
+unmoved-is ls ts at n e h =
+    rw e
+    (let same = signed_items (take line_size (drop at ls)) (take line_size (drop at ts)) in
+    let l = three_numbers ls at h.line in
+    let t = three_numbers ts at h.total in
+    same_test _ _
+    (λ e. let p = same_three _ _ _ _ _ _ (sym l ∙ same.0 e ∙ t) in same-unmoved ls ts at p.0 p.1 p.2)
+    (λ u. same.1 (l ∙ rw (quantity-same ls ts at h u, kroner-same ls ts at h u, billionths-same ls ts at h u) (sym t))))
+
 -- each line of a book can be compared
 pub sendable : (b : Book) (ls ts : List ℤ) → Settled b ls ts → (k : ℕ) → k < lines_in b → Sendable b ls ts k
 sendable b ls ts h k l =
@@ -142,6 +158,26 @@ module _ (ls ts : List ℤ) where
   unfolding moved_count
   count-few zero = omega arith
   count-few (suc k) = let h = count-few k in cases (unmoved_at ls ts (k * line_size)) (λ t. rw t (omega arith)) (λ t. rw t (omega arith))
+
+  -- they are as many as a chain counts of the numbers below
+  pub count_filtered : (n : ℕ) → length (filter (λ k. not (unmoved_at ls ts (k * line_size))) (range_with_len 0 n)) ≡ moved_count ls ts n
+  unfolding moved_count
+  count_filtered n = length-filter moves (range_with_len 0 n) ∙ counted n
+    where
+      moves : ℕ → Bool
+      moves k = not (unmoved_at ls ts (k * line_size))
+
+      one : (u : Bool) → ◌≡◌ {A = ℕ} (cond (not u) 1 0) (cond u 0 1)
+      one true = refl
+      one false = refl
+
+      counted : (n : ℕ) → count_by moves (range_with_len 0 n) ≡ moved_count ls ts n
+      counted zero = refl
+      counted (suc n) =
+          let more = sum_by-map-range_with_len_more (λ k. cond (moves k) 1 0) (λ k. k) 0 n n (zero-add n) in
+          ap (λ m. count_by moves (range_with_len 0 m)) (sym (add-one n))
+          ∙ (rw (map-id, map-id) at more)
+          ∙ ap₂ (λ a b. a + b) (counted n) (one (unmoved_at ls ts (n * line_size)))
 
   -- the first lines have no more than all
   pub count_grows : (k n : ℕ) → moved_count ls ts k ≤ moved_count ls ts (k + n)

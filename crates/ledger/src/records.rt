@@ -10,6 +10,7 @@ use crate::rounds::{BALANCE_PLACE, MOVED_PLACE};
 use rules::{Line, MOST_LINES, RECORD_SIZE, Record};
 
 // The record that stands at place `i` of a list of numbers.
+#[tactic(auto, unfolding(crate::specs::RecordNumbers::record_at))]
 pub fn record_at(numbers: &[i64], i: usize) -> Record
     requires { RecordPlaces numbers.now i }
     ensures { result ≡ record_at numbers.now i }
@@ -29,10 +30,8 @@ pub fn put_list(list: &mut [Record], numbers: &[i64], count: usize)
     requires { (count ≤ length list.old) × ((i : ℕ) → i < count → RecordPlaces numbers.now i) }
     ensures { list.new ≡ list_to (record_at numbers.now) count ++ drop count list.old }
 {
-    let mut i = 0;
-    while i < count {
+    for i in 0..count {
         list[i] = record_at(numbers, i);
-        i += 1;
     }
 }
 

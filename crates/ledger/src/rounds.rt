@@ -1,14 +1,14 @@
 // A round: how many lines have moved from what was sent, their records as numbers, and what is sent and next afterwards.
-ghost use Rattle.std.specs.Prelude.{◌≡◌, false, cond, ◌+◌, ◌*◌, ◌≤◌, ◌<◌, min, length};
+ghost use Rattle.std.specs.Prelude.{◌≡◌, false, ◌+◌, ◌*◌, ◌≤◌, ◌<◌, min, length};
 ghost use Rattle.std.proofs.lemmas.List.Edits.{sets};
 ghost use Rattle.rules.specs.Sizes.{line_size, most_lines, record_size, last_round};
 ghost use Rattle.rules.specs.Lines.{Measure};
 ghost use Rattle.ledger.specs.Bounds.{LineOf, moved_quantity, moved_kroner};
-ghost use Rattle.ledger.specs.RecordNumbers.{SmallRecord, name_numbers, record_numbers, moved_place, numbers_after};
+ghost use Rattle.ledger.specs.RecordNumbers.{SmallRecord, record_numbers, numbers_after};
 ghost use Rattle.ledger.specs.Moved.{moved_by, unmoved_at, lines_in, line_record, line_records, moved_count, line_copied};
 ghost use Rattle.ledger.specs.Moved.{Comparable, Settled, Sendable, LineSent};
 
-use crate::lines::{line_at, line_difference, put_line};
+use crate::lines::{line_at, line_difference};
 use rules::{Book, LAST_ROUND, LINE_SIZE, Line, RECORD_SIZE, Record};
 
 // Whether the line from place `at` on is what was sent: an amount has one form, so that the three numbers are compared.
@@ -16,20 +16,7 @@ fn is_unmoved(lines: &[i64], sent: &[i64], at: usize) -> bool
     requires { Comparable lines.now sent.now at }
     ensures { result ≡ unmoved_at lines.now sent.now at }
 {
-    if lines[at] == sent[at] {
-        if lines[at + 1] == sent[at + 1] {
-            return lines[at + 2] == sent[at + 2];
-        }
-    }
-    false
-}
-
-// 1 where the line has moved, else 0.
-fn moved_one(lines: &[i64], sent: &[i64], at: usize) -> usize
-    requires { Comparable lines.now sent.now at }
-    ensures { result ≡ cond (unmoved_at lines.now sent.now at) 0 1 }
-{
-    if is_unmoved(lines, sent, at) { 0 } else { 1 }
+    lines[at..at + LINE_SIZE] == sent[at..at + LINE_SIZE]
 }
 
 // How many lines have moved, and so how many records a round has. Linear in the lines.
@@ -38,13 +25,9 @@ pub fn moved_count(book: Book, lines: &[i64], sent: &[i64]) -> usize
     ensures { result ≡ moved_count lines.now sent.now (lines_in book) }
 {
     let count = (book.suppliers * book.elements) as usize;
-    let mut n = 0;
-    let mut k = 0;
-    while k < count {
-        n += moved_one(lines, sent, k * LINE_SIZE);
-        k += 1;
-    }
-    n
+    (0..count)
+        .filter(|k| !is_unmoved(lines, sent, *k * LINE_SIZE))
+        .count()
 }
 
 // ---- the records as numbers
@@ -80,29 +63,22 @@ pub const MOVED_PLACE: usize = 3;
 
 pub const BALANCE_PLACE: usize = MOVED_PLACE + LINE_SIZE;
 
-// The numbers of what a record is about, from place `at` on.
-fn put_names(out: &mut [i64], at: usize, r: Record)
-    requires { SmallRecord r × (at + moved_place ≤ length out.old) }
-    ensures { out.new ≡ sets out.old at (name_numbers r) }
-{
-    let kind = r.kind as i64;
-    let supplier = r.supplier as i64;
-    let element = r.element as i64;
-    out[at] = kind;
-    out[at + 1] = supplier;
-    out[at + 2] = element;
-}
-
 // One record's numbers, from place `at` on.
 fn put_record(out: &mut [i64], at: usize, r: Record)
     requires { SmallRecord r × (at + record_size ≤ length out.old) }
     ensures { out.new ≡ sets out.old at (record_numbers r) }
 {
-    let moved = r.moved;
-    let balance = r.balance;
-    put_names(out, at, r);
-    put_line(out, at + MOVED_PLACE, moved);
-    put_line(out, at + BALANCE_PLACE, balance);
+    out[at..at + RECORD_SIZE].copy_from_slice(&[
+        r.kind as i64,
+        r.supplier as i64,
+        r.element as i64,
+        r.moved.quantity,
+        r.moved.kroner,
+        r.moved.billionths as i64,
+        r.balance.quantity,
+        r.balance.kroner,
+        r.balance.billionths as i64,
+    ]);
 }
 
 // ---- a round
@@ -112,9 +88,7 @@ fn copy_line(lines: &[i64], sent: &mut [i64], at: usize)
     requires { (at + 2 < length lines.now) × (at + 2 < length sent.old) }
     ensures { sent.new ≡ line_copied lines.now sent.old at }
 {
-    sent[at] = lines[at];
-    sent[at + 1] = lines[at + 1];
-    sent[at + 2] = lines[at + 2];
+    sent[at..at + LINE_SIZE].copy_from_slice(&lines[at..at + LINE_SIZE]);
 }
 
 // Line number `k` of a round: where it has moved, its record goes to place `n` of the list, and it is what was sent. The next free place.
@@ -149,10 +123,8 @@ pub fn send_lines(book: Book, lines: &[i64], sent: &mut [i64], records: &mut [i6
 {
     let count = (book.suppliers * book.elements) as usize;
     let mut n = 0;
-    let mut k = 0;
-    while k < count {
+    for k in 0..count {
         n = send_line(book, lines, sent, records, k, n);
-        k += 1;
     }
 }
 
@@ -161,9 +133,5 @@ pub fn next_round(round: u64) -> u64
     requires { (1 ≤ round) × (round ≤ last_round) }
     ensures { result ≡ min last_round (round + 1) }
 {
-    if round < LAST_ROUND {
-        round + 1
-    } else {
-        LAST_ROUND
-    }
+    LAST_ROUND.min(round + 1)
 }

@@ -4,7 +4,7 @@ use Prim.Native.Nat.{ℕ, zero, suc, ◌*◌, ◌≤◌, min}
 use native.Mathlib.Omega.{arith}
 use mathlib.Core.Path.{◌≡◌, refl, sym, ap, ap₂, subst, ◌∙◌}
 use mathlib.Core.List.{List, ◌++◌, append_assoc}
-use mathlib.Core.Option.{Option, none, some}
+use Rattle.std.specs.Prelude.{Option, None, Some, Result}
 use lib.IntN.{ℤ}
 use lib.ListN.{length, take, drop, length-append, take-append-drop}
 use lib.Seq.{length-take-le, drop-append-le}
@@ -14,6 +14,7 @@ use Rattle.rules.specs.declared.Body.{Body}
 use Rattle.rules.specs.declared.Fields.{Fields}
 use Rattle.rules.specs.declared.Message.{Message}
 use Rattle.rules.specs.declared.Record.{Record}
+use Rattle.rules.specs.declared.Refusal.{Refusal}
 use Rattle.rules.specs.Basics.{list_to}
 use Rattle.rules.specs.Sizes.{most_lines, record_size}
 use Rattle.rules.specs.World.{World, line_count}
@@ -26,8 +27,7 @@ use Rattle.rules.proofs.Parts.{few-lines, lengths}
 use Rattle.rules.proofs.BookLaws.{book-refused, book-whole}
 use Rattle.ledger.specs.RecordNumbers.{numbers_of, numbers_after, record_at, RecordPlaces}
 use Rattle.ledger.proofs.RecordNumbers.{length-numbers, records-read, records-placed}
-use Rattle.settlement.specs.declared.Reply.{Reply}
-use Rattle.settlement.specs.Replies.{room_in, Replied}
+use Rattle.settlement.specs.Replies.{room_in, count_of, Replied}
 use Rattle.listing.specs.Listed.{Listed, Numbered}
 
 -- ---- a round has few records
@@ -63,8 +63,8 @@ same_test n room h = cases (leb n room)
 module _ (w : World) (f : Fields) (room : ℕ) where
   same-answer_to : Whole w → (m : Option Message) → answer_to w m (min room most_lines) ≡ answer_to w m room
   unfolding answer_to question18
-  same-answer_to c none = refl
-  same-answer_to c (some m) = rw (same_test (length (written w m.body)) room (written-few w m.body c))
+  same-answer_to c None = refl
+  same-answer_to c (Some m) = rw (same_test (length (written w m.body)) room (written-few w m.body c))
 
   same_answer : answer w f (min room most_lines) ≡ answer w f room
   unfolding answer
@@ -104,7 +104,8 @@ long-numbers rs lent =
     omega arith
 
 -- a reply with the front of a list of numbers
-pub numbered : (w after : World) (f : Fields) (r : Reply) (room end : ℕ) (numbers out : List ℤ) → end ≡ min room most_lines * record_size
+pub numbered : (w after : World) (f : Fields) (r : Result ℕ Refusal) (room end : ℕ) (numbers out : List ℤ)
+    → end ≡ min room most_lines * record_size
     → length numbers ≡ most_lines * record_size → length out ≡ length (take end numbers)
     → Replied w after f r (take end numbers) out → Numbered w after f r room (out ++ drop end numbers)
 numbered w after f r room end numbers out e long kept p =
@@ -116,7 +117,7 @@ numbered w after f r room end numbers out e long kept p =
     let few : length rs * record_size ≤ end = let a = long-numbers rs (take end numbers) in let b = ap length here in omega arith in
     let all : out ++ drop end numbers ≡ numbers_after rs numbers =
     ap (λ (x : List ℤ). x ++ drop end numbers) here ∙ front-numbers rs end numbers (omega arith) few in
-    let count : r.records ≡ length rs = p.count ∙ ap length same in
+    let count : count_of r ≡ length rs = p.count ∙ ap length same in
     record {
       number = p.number ∙ ap (answer w f) fits ∙ same_answer w f room;
       world = p.world ∙ ap (step w f) fits ∙ same_step w f room;
@@ -128,8 +129,8 @@ numbered w after f r room end numbers out e long kept p =
 
 -- ---- and the list that is written from them is the rules'
 
-pub listed : (w after : World) (f : Fields) (r : Reply) (lent out : List Record) (numbers : List ℤ)
-    → Numbered w after f r (length lent) numbers → out ≡ list_to (record_at numbers) r.records ++ drop r.records lent
+pub listed : (w after : World) (f : Fields) (r : Result ℕ Refusal) (lent out : List Record) (numbers : List ℤ)
+    → Numbered w after f r (length lent) numbers → out ≡ list_to (record_at numbers) (count_of r) ++ drop (count_of r) lent
     → Listed w after f r lent out
 listed w after f r lent out numbers p e =
     record {
@@ -138,3 +139,8 @@ listed w after f r lent out numbers p e =
       list = unfold list_after in e ∙ ap₂ (λ (x : List Record) (n : ℕ). x ++ drop n lent) p.read p.count;
       count = p.count;
     }
+
+-- where a message is refused, nothing is written
+pub listed_none : (w after : World) (f : Fields) (r : Result ℕ Refusal) (lent : List Record) (numbers : List ℤ)
+    → Numbered w after f r (length lent) numbers → count_of r ≡ 0 → Listed w after f r lent lent
+listed_none w after f r lent numbers p e = listed w after f r lent lent numbers p (rw e (unfold list_to in refl))

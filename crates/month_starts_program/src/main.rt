@@ -5,5 +5,5 @@ use month_starts::month_starts_run;
 use std::process::ExitCode;
 
 fn main(rt: HostRuntime) -> ExitCode {
-    ExitCode::from(month_starts_run(&rt) as u8)
+    month_starts_run(&rt)
 }

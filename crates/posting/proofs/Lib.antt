@@ -1,10 +1,11 @@
 -- Laws that the proofs of this crate share.
-pub mod Signs
 pub mod Moved
+pub mod Dates
 pub mod Shares
 pub mod Fits
 pub mod Small
 pub mod Segments
+pub mod Turns
 pub mod PointRows
 pub mod Months
 pub mod Elsewhere

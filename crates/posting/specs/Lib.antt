@@ -1,6 +1,7 @@
--- What the functions of this crate add to tables of changes, and what they ask.
+-- What the functions of this crate add to the changes of lines, and what they ask.
 pub mod Moved
 pub mod Shares
+pub mod Stretches
 pub mod Payment
 pub mod Fits
 pub mod Charges

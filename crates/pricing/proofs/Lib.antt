@@ -3,3 +3,4 @@ pub mod Sizes
 pub mod Elements
 pub mod Prices
 pub mod Charges
+pub mod Fronts

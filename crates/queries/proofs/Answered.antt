@@ -8,19 +8,19 @@ use mathlib.Core.List.{[]}
 use lib.ListN.{length, take}
 use lib.Seq.{length-take-le}
 use lib.Dec.{eqb}
+use Rattle.std.specs.Prelude.{Result, Ok, Err, is_ok}
 use borrow.Author.Tests.{eq-eqb, ne_eqb}
 use native.Mathlib.Nat.{mul-le-mul}
 use native.Mathlib.Omega.{arith}
-use Rattle.rules.specs.declared.Answer.{Answer}
+use Rattle.rules.specs.declared.Refusal.{Refusal}
 use Rattle.rules.specs.declared.Book.{Book}
-use Rattle.rules.specs.declared.LineAnswer.{LineAnswer}
 use Rattle.rules.specs.declared.Line.{Line}
 use Rattle.rules.specs.Sizes.{most_elements, most_lines, most_suppliers}
 use Rattle.rules.specs.Lines.{Measure}
 use Rattle.rules.specs.World.{World, rows_of, line_at, line_count, stored_at, stored}
 use Rattle.rules.specs.WellFormed.{line_right, lines_right, line_places}
 use Rattle.rules.specs.Queries.{line_number, line_query, line_named, periods_number, periods_query, periods_read}
-use Rattle.rules.specs.Answers.{number_of, line_result}
+use Rattle.rules.specs.Answers.{refusal_number, line_result}
 use Rattle.rules.proofs.Ranges.{all-at}
 use Rattle.rules.proofs.Stored.{line-below}
 use Rattle.rules.proofs.LineQuery.{query_stored}
@@ -32,10 +32,10 @@ use Rattle.tables.specs.Order.{LinkRows, PairFits}
 use Rattle.tables.proofs.Order.{run_rising}
 use Rattle.tables.proofs.Parts.{part-within}
 use Rattle.tables.proofs.Right.{whole-rows}
-use Rattle.queries.specs.Promises.{is_line, LineAnswered, PeriodsAt}
+use Rattle.queries.specs.Promises.{LineAnswered, PeriodsAt}
 use Rattle.queries.specs.PairSearch.{PairFound}
 use Rattle.queries.proofs.PairSearch.{place_sorted, part_sorted}
-use Rattle.queries.proofs.Asks.{line_passed, periods_passed}
+use Rattle.queries.proofs.Asks.{refused_not, line_passed, periods_passed}
 
 -- every product fits
 pub place-small : (elements s : ℕ) → s ≤ most_suppliers → elements ≤ most_elements → (s - 1) * elements ≤ most_lines
@@ -45,7 +45,7 @@ place-small elements s h k =
     omega arith
 
 module _ (w : World) (s e : ℕ) where
-  line-told : (r : LineAnswer) → is_line r ≡ eqb (line_number w s e) 0 → line_result r ≡ line_query w s e → LineAnswered w s e r
+  line-told : (r : Result Line Refusal) → is_ok r ≡ eqb (line_number w s e) 0 → line_result r ≡ line_query w s e → LineAnswered w s e r
   line-told r t h = record {
     told = t;
     stored = h;
@@ -55,9 +55,11 @@ module _ (w : World) (s e : ℕ) where
 
   -- ---- refused
 
-  pub line_refused_lem : line_number w s e ≢ 0 → (a : Answer) → number_of a ≡ line_number w s e → LineAnswered w s e (LineAnswer.Refused a)
+  pub line_refused_lem : (r : Refusal) → refusal_number r ≡ line_number w s e → LineAnswered w s e (Err r)
   unfolding line_query
-  line_refused_lem h a k = line-told (LineAnswer.Refused a) (sym (ne_eqb _ _ h)) (rw (ne_eqb _ _ h, k))
+  line_refused_lem r k =
+      let h = ne_eqb (line_number w s e) 0 (λ z. refused_not r (k ∙ z)) in
+      line-told (Err r) (sym h) (rw (h, k))
 
   -- ---- answered
 
@@ -84,12 +86,11 @@ module _ (w : World) (s e : ℕ) where
     pub line-named : (r : Line) (m n : ℕ)
         → LineOf r (stored_at w.position.lines Measure.quantity (line_at w.opening s e))
         (stored_at w.position.lines Measure.amount (line_at w.opening s e)) m n
-        → LineAnswered w s e (LineAnswer.Line r.quantity r.kroner r.billionths)
+        → LineAnswered w s e (Ok r)
     unfolding stored line_named
     line-named r m n l =
         let k = line_passed w s e h in
-        line-told (LineAnswer.Line r.quantity r.kroner r.billionths) (sym (eq-eqb _ _ h))
-        (rw (l.quantity, l.kroner, l.billionths) (sym (query_stored w k.0 s e k.1)))
+        line-told (Ok r) (sym (eq-eqb _ _ h)) (rw (l.quantity, l.kroner, l.billionths) (sym (query_stored w k.0 s e k.1)))
 
 -- ---- the periods
 
@@ -125,6 +126,15 @@ periods-at b o p e place count told h f =
       within = i;
     } in
     (at, rw h f.read)
+
+-- it ends within the table
+pub periods-inside : (b : Book) (o : Lists) (p e place count : ℕ) → periods_number (world_in b o) p e ≡ 0
+    → PeriodsAt (world_in b o) p e place count
+    → place + count ≤ length o.links
+periods-inside b o p e place count h k =
+    let fits = (pair_asked b o p e h).0.fits in
+    let within = k.within in
+    omega arith
 
 pub periods-refused : (w : World) (p e : ℕ) → periods_number w p e ≢ 0 → ([] ≡ periods_query w p e) × (0 ≡ periods_read w p e)
 unfolding periods_query periods_read

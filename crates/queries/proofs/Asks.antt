@@ -1,17 +1,37 @@
 -- The questions of the queries, one after the other: those of the book, then the query's own. What has passed where none says no.
 use Prim.Native.Nat.{ℕ, ◌<◌}
-use mathlib.Core.Path.{◌≡◌, sym}
+use mathlib.Core.Path.{◌≡◌, sym, ◌∙◌}
+use mathlib.Core.Logic.{◌≢◌}
+use mathlib.Core.Path.{refl}
+use mathlib.Core.Bool.{true, false}
+use borrow.Author.Tests.{ne_eqb}
+use Rattle.std.specs.Prelude.{Result, Ok, Err, is_err, ⊤}
+use Rattle.rules.specs.Answers.{refusal_number, number_of}
+use Rattle.rules.specs.declared.Refusal.{Refusal}
+use Rattle.validation.proofs.Next.{refuses}
 use lib.Dec.{ltb}
 use borrow.Author.Tests.{ltb-true}
 use native.Mathlib.Omega.{arith}
 use Rattle.rules.specs.Basics.{within}
 use Rattle.rules.specs.World.{World, InBook}
 use Rattle.rules.specs.Effects.{ask}
-use Rattle.rules.specs.Queries.{line_number, periods_number, day_number}
+use Rattle.rules.specs.Queries.{line_number, periods_number, day_number, DayResult, day_query}
 use Rattle.rules.proofs.Ranges.{within_low, within-high}
 use Rattle.rules.specs.Whole.{Whole}
 use Rattle.rules.proofs.Passed.{asked_passed}
 use Rattle.rules.proofs.BookLaws.{whole-asked, book-whole}
+
+-- a refusal's number is none that says that all has passed
+pub refused_not : (r : Refusal) → refusal_number r ≢ 0
+refused_not r e = let k = refuses r in absurd (omega arith)
+
+pub passed_number : (r : Result ⊤ Refusal) → is_err r ≡ false → number_of r ≡ 0
+passed_number (Ok x) h = refl
+passed_number (Err r) h = absurd (let x : ◌≡◌ {A = ℕ} 0 1 = cc in omega arith)
+
+pub refused_number : (r : Result ⊤ Refusal) → is_err r ≡ true → number_of r ≢ 0
+refused_number (Ok x) h e = absurd (let x : ◌≡◌ {A = ℕ} 0 1 = cc in omega arith)
+refused_number (Err r) h e = refused_not r e
 
 module _ (w : World) where
   -- a book that is well formed is answered by the query's own questions
@@ -50,3 +70,8 @@ module _ (w : World) where
   day_passed p h =
       let k = book-whole w _ h in
       (k.0, ltb-true _ _ (asked_passed (ltb p w.opening.points) 7 0 0 (λ z. omega arith) k.1).0)
+
+  -- question 7 says no
+  pub day-refused : (p : ℕ) (r : Refusal) → refusal_number r ≡ day_number w p → DayResult.refused (refusal_number r) ≡ day_query w p
+  unfolding day_query
+  day-refused p r k = rw (ne_eqb (day_number w p) 0 (λ z. refused_not r (k ∙ z)), k)

@@ -1,24 +1,21 @@
 -- The search for the earliest day without a holder: some element, place by place, and the days of the month, one by one.
-use Prim.Native.Nat.{ℕ, zero, suc, ◌+◌, ◌-◌, ◌≤◌, ◌<◌}
-use mathlib.Core.Path.{◌≡◌, refl, sym, ◌∙◌}
+use Prim.Native.Nat.{ℕ, zero, suc, ◌+◌}
+use mathlib.Core.Path.{◌≡◌, refl, ap, ap₂, ◌∙◌}
 use mathlib.Core.Logic.{◌≢◌}
-use mathlib.Core.Bool.{Bool, true, false, not}
+use mathlib.Core.Bool.{Bool, true, false, not, cond, ◌||◌}
 use mathlib.Core.List.{List}
-use mathlib.Core.Option.{Option, none, some}
+use Rattle.std.specs.Prelude.{Option, Some}
+use Rattle.std.specs.List.{list_any, find, range_with_len}
 use lib.Dec.{eqb}
-use borrow.Author.Tests.{eqb-true, ne_eqb}
+use borrow.Author.Tests.{ne_eqb}
 use native.Mathlib.Omega.{arith}
 use native.Mathlib.Numerals.{add-one}
-use Rattle.calendar.specs.Gregorian.{InRange, first_day, days_of_month}
-use Rattle.calendar.proofs.MonthLaws.{month-within}
-use Rattle.rules.specs.declared.Book.{Book}
+use Rattle.rules.specs.declared.Lent.{Lent}
 use Rattle.rules.specs.Basics.{any_to, first_from}
 use Rattle.rules.specs.Rows.{quantity_on}
-use Rattle.rules.specs.Sizes.{end_of_days}
-use Rattle.rules.specs.World.{Opening, Tables, month_first, month_days, holder_on, state_on, counting_states, linked_on}
-use Rattle.rules.specs.Queries.{day_number, lacks_holder, earliest_without_holder}
-use Rattle.rules.proofs.Tests.{tests, cases}
-use Rattle.rules.specs.Lent.{Lists, world_in, opening_in, tables_in, lend_rows}
+use Rattle.rules.specs.World.{Opening, Tables, holder_on, state_on, counting_states, linked_on}
+use Rattle.rules.specs.Queries.{day_number, lacks_holder}
+use Rattle.rules.specs.Lent.{Lists, world_in}
 use Rattle.rules.proofs.Parts.{lengths, dated}
 use Rattle.tables.proofs.Right.{whole-rows}
 use Rattle.queries.specs.Days.{PointAsked}
@@ -28,38 +25,36 @@ use Rattle.queries.proofs.Asks.{day_passed}
 abbrev pub linked_by : List ℕ → (point day element : ℕ) → Bool
 linked_by rows p d e = not (eqb (quantity_on rows p e d) 0)
 
-module _ (f : ℕ → Bool) where
-  -- ---- some number below n
+-- ---- some number below n, as a chain over the numbers finds it
 
-  pub any_none : any_to f 0 ≡ false
-  unfolding any_to
-  any_none = refl
+or_swap : (a b c : Bool) → (a || (b || c)) ≡ (b || (a || c))
+or_swap true true c = refl
+or_swap true false c = refl
+or_swap false b c = refl
 
-  pub any_more : (n : ℕ) → any_to f n ≡ false → f n ≡ false → any_to f (n + 1) ≡ false
-  unfolding any_to
-  any_more n h t = rw (add-one n, t, h)
+-- one more number at the front
+any_to-front : (f : ℕ → Bool) (n : ℕ) → any_to f (suc n) ≡ (f 0 || any_to (λ i. f (suc i)) n)
+unfolding any_to
+any_to-front f zero = refl
+any_to-front f (suc n) =
+    ap (λ (b : Bool). f (suc n) || b) (any_to-front f n) ∙ or_swap (f (suc n)) (f 0) (any_to (λ i. f (suc i)) n)
 
-  pub any-true : (n i : ℕ) → i < n → f i ≡ true → any_to f n ≡ true
-  unfolding any_to
-  any-true zero i h t = absurd (omega arith)
-  any-true (suc n) i h t = cases (f n)
-      (λ k. rw k)
-      (λ k. rw k (cases (eqb i n)
-      (λ e. let z : f n ≡ true = rw (eqb-true i n e) at t in let y : ◌≡◌ {A = Bool} true false = sym z ∙ k in
-      absurd (let x : ◌≡◌ {A = ℕ} 0 1 = cc in omega arith))
-      (λ e. any-true n i (omega (arith, tests)) t)))
+any_to-from : (f g : ℕ → Bool) (a n : ℕ) → ((i : ℕ) → g i ≡ f (a + i)) → any_to g n ≡ list_any f (range_with_len a n)
+unfolding any_to
+any_to-from f g a zero h = refl
+any_to-from f g a (suc n) h =
+    any_to-front g n
+    ∙ ap₂ (λ (b c : Bool). b || c) (h 0 ∙ ap f (omega arith))
+    (any_to-from f (λ i. g (suc i)) (a + 1) n (λ i. h (suc i) ∙ ap f (omega arith)))
 
-  -- ---- the first of n numbers from a on
+pub any_to-range : (f : ℕ → Bool) (n : ℕ) → any_to f n ≡ list_any f (range_with_len 0 n)
+any_to-range f n = any_to-from f f 0 n (λ i. ap f (omega arith))
 
-  pub first-here : (a n : ℕ) → 0 < n → f a ≡ true → first_from f a n ≡ some a
-  unfolding first_from
-  first-here a zero l h = absurd (omega arith)
-  first-here a (suc n) l h = rw h
-
-  pub first_next : (a n : ℕ) → 0 < n → f a ≡ false → first_from f a n ≡ first_from f (a + 1) (n - 1)
-  unfolding first_from
-  first_next a zero l h = absurd (omega arith)
-  first_next a (suc n) l h = let e : suc n - 1 ≡ n = omega arith in rw (h, e, add-one a)
+-- the first of n numbers from a on, as a chain over them finds it
+pub first_from-find : (f : ℕ → Bool) (a n : ℕ) → first_from f a n ≡ find f (range_with_len a n)
+unfolding first_from
+first_from-find f a zero = refl
+first_from-find f a (suc n) = rw (add-one a) (ap (λ (r : Option ℕ). cond (f a) (Some a) r) (first_from-find f (suc a) n))
 
 -- ---- a day, by the holder, the state and the links
 
@@ -77,72 +72,21 @@ module _ (o : Opening) (t : Tables) (p d : ℕ) where
   unfolding lacks_holder
   by_holder a = rw (ne_eqb _ _ a)
 
--- ---- the days, one by one
-
--- what the lent rows, with whatever else is lent, say of a day, and of the month
-abbrev pub lacks_by : (b : Book) → (links holders states : List ℕ) → (point : ℕ) → Lists → (day : ℕ) → Bool
-lacks_by b links holders states p o = let t = lend_rows links holders states o in lacks_holder (opening_in b t) (tables_in b t) p
-
-abbrev pub earliest_by : (b : Book) → (links holders states : List ℕ) → (point : ℕ) → Lists → Option ℕ
-earliest_by b links holders states p o =
-    let t = lend_rows links holders states o in
-    earliest_without_holder (opening_in b t) (tables_in b t) p
-
--- the days of the month from a date on give the answer
-pub record Searched (b : Book) (links holders states : List ℕ) (p first days date : ℕ) : Type 0 where
-  pub from : 1 ≤ date
-  pub upto : date ≤ days + 1
-  pub within : first + days ≤ end_of_days
-  pub rest : (o : Lists) → first_from (lacks_by b links holders states p o) (first + (date - 1)) (days - (date - 1))
-      ≡ earliest_by b links holders states p o
-
-module _ (b : Book) (links holders states : List ℕ) (p first days : ℕ) where
-  pub searched_from : InRange b.year b.month → first ≡ first_day b.year b.month → days ≡ days_of_month b.year b.month
-      → Searched b links holders states p first days 1
-  unfolding earliest_without_holder month_first month_days
-  searched_from m f d =
-      let w = month-within b.year b.month m in
-      let e : first + (1 - 1) ≡ first_day b.year b.month = omega arith in
-      let k : days - (1 - 1) ≡ days_of_month b.year b.month = omega arith in
-      record { from = omega arith; upto = omega arith; within = omega arith; rest = λ o. rw (e, k) }
-
-  module _ (date : ℕ) (s : Searched b links holders states p first days date) where
-    pub searched_here : date ≤ days → (o : Lists) → lacks_by b links holders states p o (first + (date - 1)) ≡ true
-        → some (first + (date - 1)) ≡ earliest_by b links holders states p o
-    searched_here l o h =
-        let f = s.from in
-        sym (first-here _ (first + (date - 1)) (days - (date - 1)) (omega arith) h) ∙ s.rest o
-
-    pub searched_more : date ≤ days → ((o : Lists) → lacks_by b links holders states p o (first + (date - 1)) ≡ false)
-        → Searched b links holders states p first days (date + 1)
-    searched_more l h =
-        let f = s.from in
-        let e : first + (date - 1) + 1 ≡ first + (date + 1 - 1) = omega arith in
-        let k : days - (date - 1) - 1 ≡ days - (date + 1 - 1) = omega arith in
-        record {
-          from = omega arith;
-          upto = omega arith;
-          within = s.within;
-          rest = λ o. rw (← e, ← k)
-              (sym (first_next _ (first + (date - 1)) (days - (date - 1)) (omega arith) (h o)) ∙ s.rest o);
-        }
-
-    pub searched_all : days < date → (o : Lists) → none ≡ earliest_by b links holders states p o
-    unfolding first_from
-    searched_all l o = let e : days - (date - 1) ≡ 0 = omega arith in rw e at (s.rest o)
+-- ---- the days of the month
 
 -- what the search needs, where no question says no
-pub point-asked : (b : Book) (o : Lists) (p : ℕ) → day_number (world_in b o) p ≡ 0 → PointAsked b o.links o.holders o.states p
-point-asked b o p h =
-    let k = day_passed (world_in b o) p h in
-    let n = (lengths (world_in b o) k.0).limited in
-    let r = whole-rows b o k.0 in
+pub point-asked : (l : Lent) (o : Lists) (p : ℕ) → l.links.now ≡ o.links → l.holders.now ≡ o.holders → l.states.now ≡ o.states
+    → day_number (world_in l.book o) p ≡ 0 → PointAsked l p
+point-asked l o p a b c h =
+    let k = day_passed (world_in l.book o) p h in
+    let n = (lengths (world_in l.book o) k.0).limited in
+    let r = whole-rows l.book o k.0 in
     record {
-      month = dated b o k.0;
+      month = dated l.book o k.0;
       points = n.points;
       elements = n.elements;
       point = k.1;
-      links = r.links;
-      holders = r.holders;
-      states = r.states;
+      links = rw a r.links;
+      holders = rw b r.holders;
+      states = rw c r.states;
     }

@@ -1,7 +1,8 @@
 -- What the queries for lines and periods promise, each as one record of equations with the rules' definitions. The query for a day promises
 -- one equation, with `day_query`.
-use Rattle.std.specs.Prelude.{ℕ, ◌+◌, ◌≤◌, ◌≡◌, Bool, true, false, List, eqb, length, take, drop}
-use Rattle.rules.specs.declared.LineAnswer.{LineAnswer}
+use Rattle.std.specs.Prelude.{ℕ, ◌+◌, ◌≤◌, ◌≡◌, Result, is_ok, List, eqb, length, take, drop}
+use Rattle.rules.specs.declared.Line.{Line}
+use Rattle.rules.specs.declared.Refusal.{Refusal}
 use Rattle.rules.specs.World.{World, rows_of, InBook}
 use Rattle.rules.specs.Opening.{opening_answer}
 use Rattle.rules.specs.Queries.{line_number, line_query, line_given, own_line, periods_query}
@@ -10,15 +11,10 @@ use Rattle.rules.specs.Fresh.{fresh_facts}
 use Rattle.rules.specs.Claim.{Event, reached}
 use Rattle.queries.specs.PairSearch.{pair_place}
 
--- is it a line, and no refusal
-abbrev pub is_line : LineAnswer → Bool
-is_line (LineAnswer.Line quantity kroner billionths) = true
-is_line (LineAnswer.Refused a) = false
-
 -- "For a book reached from opening, the promise of a line query names both numbers by this rule; for another book that passes question 5 it
 -- names the stored line."
-pub record LineAnswered (w : World) (supplier element : ℕ) (r : LineAnswer) : Type 0 where
-  pub told : is_line r ≡ eqb (line_number w supplier element) 0
+pub record LineAnswered (w : World) (supplier element : ℕ) (r : Result Line Refusal) : Type 0 where
+  pub told : is_ok r ≡ eqb (line_number w supplier element) 0
   pub stored : line_result r ≡ line_query w supplier element
   -- for a book reached from an opening: the rules' sums of its own tables, which are those of fresh settlement
   pub sums : (w₀ : World) (vs : List Event) → opening_answer w₀ ≡ 0 → w ≡ (reached w₀ vs).world → InBook w₀.opening supplier element

@@ -2,7 +2,7 @@
 use Prim.Native.Nat.{ℕ, ◌≤◌, ◌<◌}
 use mathlib.Core.Path.{◌≡◌, refl}
 use mathlib.Core.Bool.{true, false≢true}
-use mathlib.Core.Option.{some}
+use Rattle.std.specs.Prelude.{Some}
 use lib.ListN.{length, take}
 use native.Mathlib.Nat.{mul-le-mul_right}
 use native.Mathlib.Omega.{arith}
@@ -22,7 +22,7 @@ use Rattle.rules.proofs.Passed.{own-quantity, own-reading, element_link, element
 use Rattle.recording.specs.Recorded.{RowFits, ReadingFits}
 
 module _ (b : Book) (o : Lists) where
-  inside : (x : Body) (p : ℕ) → Ready (opening_in b o) (tables_in b o) x → point_of x ≡ some p → p < most_points
+  inside : (x : Body) (p : ℕ) → Ready (opening_in b o) (tables_in b o) x → point_of x ≡ Some p → p < most_points
   inside x p r h =
       let k = point-inside (opening_in b o) (tables_in b o) x p h r.point in
       let l = r.limited.points in

@@ -24,19 +24,7 @@ named_book year month points suppliers elements =
 -- no row is in use, the fixing comes next, and the month's first day and days are kept
 abbrev pub fresh_book : (year month points suppliers elements : ℕ) → Book
 fresh_book year month points suppliers elements =
-    record {
-      year = year;
-      month = month;
-      points = points;
-      suppliers = suppliers;
-      elements = elements;
-      periods = 0;
-      holders = 0;
-      states = 0;
-      round = 1;
-      first = first_day year month;
-      days = days_of_month year month;
-    }
+    record (named_book year month points suppliers elements) { first = first_day year month; days = days_of_month year month }
 
 -- every table that messages write, with zeros for what it held
 abbrev pub cleared : Lists → Lists

@@ -4,62 +4,12 @@ use Rattle.rules.specs.declared.Book.{Book}
 use Rattle.rules.specs.declared.Body.{Body}
 use Rattle.rules.specs.declared.Body.TheVariants.{Link, Stop, Quantity, Holder, State, Reading, Block, Round}
 use Rattle.rules.specs.Sizes.{end_of_days, holder_size, most_energy, most_points, quantity_room, state_size}
-use Rattle.rules.specs.World.{reading_at}
+use Rattle.rules.specs.World.{World, reading_at}
 use Rattle.rules.specs.Effects.{told}
 use Rattle.rules.specs.Order.{linked_in}
-use Rattle.rules.specs.Lent.{Lists, opening_in, tables_in}
+use Rattle.rules.specs.Lent.{Lists, opening_in}
 use Rattle.tables.specs.Order.{PairFits, DayFits}
 use Rattle.facts.specs.Readings.{HourOfMonth}
-
--- ---- a book with another count of rows
-
-abbrev pub using_periods : Book → (used : ℕ) → Book
-using_periods b n =
-    record {
-      year = b.year;
-      month = b.month;
-      points = b.points;
-      suppliers = b.suppliers;
-      elements = b.elements;
-      periods = n;
-      holders = b.holders;
-      states = b.states;
-      round = b.round;
-      first = b.first;
-      days = b.days;
-    }
-
-abbrev pub using_holders : Book → (used : ℕ) → Book
-using_holders b n =
-    record {
-      year = b.year;
-      month = b.month;
-      points = b.points;
-      suppliers = b.suppliers;
-      elements = b.elements;
-      periods = b.periods;
-      holders = n;
-      states = b.states;
-      round = b.round;
-      first = b.first;
-      days = b.days;
-    }
-
-abbrev pub using_states : Book → (used : ℕ) → Book
-using_states b n =
-    record {
-      year = b.year;
-      month = b.month;
-      points = b.points;
-      suppliers = b.suppliers;
-      elements = b.elements;
-      periods = b.periods;
-      holders = b.holders;
-      states = n;
-      round = b.round;
-      first = b.first;
-      days = b.days;
-    }
 
 -- ---- what is asked
 
@@ -82,10 +32,6 @@ pub record ReadingFits (b : Book) (readings : List ℕ) (point day hour energy :
 
 -- ---- what is left
 
--- the tables of the returned book are those that the rules name, and its other numbers are those of the book before
-pub record RecordedAs (b : Book) (before : Lists) (body : Body) (r : Book) (after : Lists) : Type 0 where
-  pub tables : tables_in r after ≡ told (opening_in b before) (tables_in b before) body
-  pub opening : opening_in r before ≡ opening_in b before
-  pub round : r.round ≡ b.round
-  pub first : r.first ≡ b.first
-  pub days : r.days ≡ b.days
+-- the world where a message is told: with other tables, and all else as it was
+abbrev pub recorded_in : World → Body → World
+recorded_in w b = record w { position = record w.position { tables = told w.opening w.position.tables b } }

@@ -3,7 +3,7 @@ use Prim.Native.Nat.{ℕ, ◌+◌, ◌-◌, ◌*◌, ◌≤◌, ◌<◌}
 use mathlib.Core.Path.{◌≡◌, refl, sym, ap, ◌∙◌}
 use mathlib.Core.Bool.{Bool, true, false, not, ◌&&◌, ◌||◌, cond, false≢true}
 use mathlib.Core.List.{List}
-use mathlib.Core.Option.{some}
+use Rattle.std.specs.Prelude.{Some}
 use lib.ListN.{length, get_or, set}
 use lib.Seq.{get_or-set_same, get_or-set_other}
 use lib.Dec.{leb, ltb, eqb}
@@ -172,7 +172,7 @@ module _ (op : Opening) (t : Tables) (s : Fresh) (ag : Agree op t s) where
   unfolding told heard with_holders
   agree-holder p a h ha hh = record {
     holder = λ p' d. rw (rows_table (record_row holder_size (pack_value holder_size p a h) (rows_of t.holders)))
-        (recorded_pack holder_size p a h ha hh (rows_of t.holders) p' d ∙ ap (cond (here p a p' d) (some h)) (ag.holder p' d));
+        (recorded_pack holder_size p a h ha hh (rows_of t.holders) p' d ∙ ap (cond (here p a p' d) (Some h)) (ag.holder p' d));
     state = ag.state;
     quantity = ag.quantity;
     start = ag.start;
@@ -184,7 +184,7 @@ module _ (op : Opening) (t : Tables) (s : Fresh) (ag : Agree op t s) where
   agree-state p a v ha hv = record {
     holder = ag.holder;
     state = λ p' d. rw (rows_table (record_row state_size (pack_value state_size p a v) (rows_of t.states)))
-        (recorded_pack state_size p a v ha hv (rows_of t.states) p' d ∙ ap (cond (here p a p' d) (some v)) (ag.state p' d));
+        (recorded_pack state_size p a v ha hv (rows_of t.states) p' d ∙ ap (cond (here p a p' d) (Some v)) (ag.state p' d));
     quantity = ag.quantity;
     start = ag.start;
     reading = unfold energy_of in ag.reading;

@@ -3,7 +3,7 @@ use mathlib.Core.Path.{◌≡◌, refl}
 use Prim.Native.Nat.{ℕ, ◌+◌, ◌*◌, ◌≤◌}
 use mathlib.Core.Bool.{true}
 use mathlib.Core.List.{[]}
-use mathlib.Core.Option.{none}
+use Rattle.std.specs.Prelude.{None}
 use lib.IntN.{pos}
 use lib.ListN.{replicate, length-replicate}
 use lib.Dec.{leb}
@@ -113,4 +113,4 @@ pub line-nothing : (t : Terms) (m : Measure) (s e : ℕ) → 1 ≤ s → line t 
 unfolding line fresh_facts nothing
 line-nothing t m s e h =
     sum-zero _ t.points (λ p k. point_line_none t (fresh_facts nothing) m s p e
-    (λ i j q. let z : latest (λ x. none) (t.first + i) ≡ 0 = latest_none (t.first + i) in omega arith))
+    (λ i j q. let z : latest (λ x. None) (t.first + i) ≡ 0 = latest_none (t.first + i) in omega arith))

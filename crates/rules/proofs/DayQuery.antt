@@ -3,7 +3,7 @@
 use Prim.Native.Nat.{ℕ, zero, suc, ◌+◌, ◌≤◌, ◌<◌}
 use mathlib.Core.Path.{◌≡◌, sym, ◌∙◌}
 use mathlib.Core.Bool.{Bool, true, false}
-use mathlib.Core.Option.{Option, none, some}
+use Rattle.std.specs.Prelude.{Option, None, Some}
 use lib.Dec.{eqb}
 use borrow.Author.Tests.{eqb-true}
 use native.Mathlib.Omega.{arith}
@@ -24,7 +24,7 @@ pub record Smallest (f : ℕ → Bool) (a n d : ℕ) : Type 0 where
   pub before : (i : ℕ) → a ≤ i → i < d → f i ≡ false
 
 module _ (f : ℕ → Bool) where
-  pub first_none : (a n : ℕ) → first_from f a n ≡ none → (i : ℕ) → a ≤ i → i < a + n → f i ≡ false
+  pub first_none : (a n : ℕ) → first_from f a n ≡ None → (i : ℕ) → a ≤ i → i < a + n → f i ≡ false
   unfolding first_from
   first_none a zero h i l k = absurd (omega arith)
   first_none a (suc n) h i l k = cases (f a)
@@ -33,7 +33,7 @@ module _ (f : ℕ → Bool) where
       (λ e. rw (eqb-true i a e) t)
       (λ e. first_none (suc a) n (rw t at h) i (omega (arith, tests)) (omega arith)))
 
-  pub first_some : (a n d : ℕ) → first_from f a n ≡ some d → Smallest f a n d
+  pub first_some : (a n d : ℕ) → first_from f a n ≡ Some d → Smallest f a n d
   unfolding first_from
   first_some a zero d h = absurd (let x : ◌≡◌ {A = ℕ} 0 1 = cc in omega arith)
   first_some a (suc n) d h = cases (f a)
@@ -68,22 +68,22 @@ module _ (w : World) (p : ℕ) where
     answered-is : earliest_without_holder w.opening w.position.tables p ≡ x
     answered-is = let k = sym (day-answered not_refused) ∙ h in cc
 
-  pub day_smallest : (d : ℕ) → day_query w p ≡ DayResult.answered (some d)
+  pub day_smallest : (d : ℕ) → day_query w p ≡ DayResult.answered (Some d)
       → Smallest (lacks_holder w.opening w.position.tables p) (month_first w.opening) (month_days w.opening) d
   unfolding earliest_without_holder
-  day_smallest d h = first_some _ _ _ d (answered-is (some d) h)
+  day_smallest d h = first_some _ _ _ d (answered-is (Some d) h)
 
-  pub day_none : day_query w p ≡ DayResult.answered none
+  pub day_none : day_query w p ≡ DayResult.answered None
       → (d : ℕ) → month_first w.opening ≤ d → d < month_first w.opening + month_days w.opening
       → lacks_holder w.opening w.position.tables p d ≡ false
   unfolding earliest_without_holder
-  day_none h = first_none _ _ _ (answered-is none h)
+  day_none h = first_none _ _ _ (answered-is None h)
 
   -- a day that is named is one of the calendar
-  pub day-below : (d : ℕ) → day_query w p ≡ DayResult.answered (some d) → d < end_of_days
+  pub day-below : (d : ℕ) → day_query w p ≡ DayResult.answered (Some d) → d < end_of_days
   unfolding day_number month_first month_days
   day-below d h =
       let s = (day_smallest d h).upto in
-      let whole = (book-whole w _ (not_refused (some d) h)).0 in
+      let whole = (book-whole w _ (not_refused (Some d) h)).0 in
       let m = month-within w.opening.year w.opening.month (lengths w whole).limited.month in
       omega arith

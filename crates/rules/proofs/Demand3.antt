@@ -6,7 +6,7 @@ use Prim.Native.Nat.{ℕ, suc, ◌+◌, ◌*◌, ◌^◌, ◌≤◌, ◌<◌}
 use mathlib.Core.Bool.{Bool, true, false, ◌&&◌, false≢true}
 use mathlib.Core.List.Memᴰ
 use mathlib.Core.List.{List, [], ◌∷◌, ◌++◌, append-nil, append_assoc, Memᴰ}
-use mathlib.Core.Option.{Option, none, some}
+use Rattle.std.specs.Prelude.{Option, None, Some}
 use lib.IntN.{nat_abs, +ℤ_idr}
 use lib.ListN.{length}
 use lib.Dec.{eqb}
@@ -70,7 +70,7 @@ advance-is : (h : History) (v : Event) → advance h v ≡ after h (accepted h.w
 unfolding advance after step hear records_of accepted
 advance-is h v = refl
 
-refused : (h : History) → after h none ≡ h
+refused : (h : History) → after h None ≡ h
 unfolding after step_by heard_body written_by
 refused h = rw (append-nil h.records)
 
@@ -106,7 +106,7 @@ record Inv (o : Opening) (h : History) : Type 0 where
   lines : LinesOfRules h.world
   sent : (m : Measure) (s e : ℕ) → InBook h.world.opening s e
       → total m s e h.records ≡ stored h.world.opening h.world.sent.totals m s e
-  balance : (s e : ℕ) → InBook h.world.opening s e → (r : Record) → last_record s e none h.records ≡ some r
+  balance : (s e : ℕ) → InBook h.world.opening s e → (r : Record) → last_record s e None h.records ≡ Some r
       → balance_of r ≡ stored_line h.world.opening h.world.sent.totals s e
 
 -- the rules' line from the tables is fresh settlement's, whichever states count
@@ -151,16 +151,16 @@ sent-posted w b xs m s e k h = cases (is_round b)
     (λ c. rw (c, append-nil xs) h)
 
 balance-posted : (w : World) (b : Body) (xs : List Record) (s e : ℕ) → InBook w.opening s e
-    → ((r : Record) → last_record s e none xs ≡ some r → balance_of r ≡ stored_line w.opening w.sent.totals s e)
-    → (r : Record) → last_record s e none (xs ++ written w b) ≡ some r
+    → ((r : Record) → last_record s e None xs ≡ Some r → balance_of r ≡ stored_line w.opening w.sent.totals s e)
+    → (r : Record) → last_record s e None (xs ++ written w b) ≡ Some r
     → balance_of r ≡ stored_line w.opening (sent_after w b).totals s e
 unfolding written sent_after
 balance-posted w b xs s e k h = cases (is_round b)
     (λ c. rw c (last-round w xs s e k h))
     (λ c. rw (c, append-nil xs) h)
 
-inv_after : (o : Opening) (h : History) → Inv o h → (v : Event) (b : Body) → accepted h.world v.fields (length v.lent) ≡ some b
-    → Inv o (after h (some b))
+inv_after : (o : Opening) (h : History) → Inv o h → (v : Event) (b : Body) → accepted h.world v.fields (length v.lent) ≡ Some b
+    → Inv o (after h (Some b))
 unfolding after step_by heard_body written_by posted tables_after
 inv_after o h i v b e =
     let k = taken h.world v.fields (length v.lent) b e in
@@ -177,8 +177,8 @@ inv_advance : (o : Opening) (h : History) → Inv o h → (v : Event) → Inv o 
 inv_advance o h i v = rw (advance-is h v) (go (accepted h.world v.fields (length v.lent)) refl)
   where
     go : (x : Option Body) → accepted h.world v.fields (length v.lent) ≡ x → Inv o (after h x)
-    go none e = subst (Inv o) (sym (refused h)) i
-    go (some b) e = inv_after o h i v b e
+    go None e = subst (Inv o) (sym (refused h)) i
+    go (Some b) e = inv_after o h i v b e
 
 inv_all : (o : Opening) (h : History) (vs : List Event) → Inv o h → Inv o (advance_all h vs)
 unfolding advance_all
@@ -288,12 +288,12 @@ module _ (h : History) (o : Opening) (i : Inv o h) where
       (tables_after h.world b)
       (unfold tables_after in told-right h.world.opening h.world.position.tables b r)) m s) (inside m)))
 
-  full_of : (v : Event) (b : Message) → understood h.world.opening.suppliers v.fields ≡ some b
+  full_of : (v : Event) (b : Message) → understood h.world.opening.suppliers v.fields ≡ Some b
       → answer h.world v.fields (length v.lent) ≡ 17 → rows_fit (tables_after h.world b.body) ≡ false
   unfolding question17
   full_of v b u e =
       let k = behind h.world v.fields (length v.lent) 17 (λ n x y z. omega arith) e in
-      let q : k.message ≡ b = let z : some k.message ≡ some b = sym k.is ∙ u in cc in
+      let q : k.message ≡ b = let z : Some k.message ≡ Some b = sym k.is ∙ u in cc in
       let f = refused_17 h.world v.fields (length v.lent) e k in
       subst (λ (m : Message). rows_fit (tables_after h.world m.body) ≡ false) q
       (one_false (rows_fit (tables_after h.world k.message.body)) _ (lines_fit k.message.body k.ready) f)
@@ -303,7 +303,7 @@ module _ (h : History) (o : Opening) (i : Inv o h) where
 -- an accepted message that a supplier holds the point of on no day, before or after, changes no line of the supplier's
 module _ (h : History) (o : Opening) (i : Inv o h) (v : Event) (s e : ℕ) (b : InBook h.world.opening s e)
     (before : Holds h.world.opening h.fresh s v.fields.point → ⊥) where
-  local-line : (counts : ℕ → Bool) (x : Body) → accepted h.world v.fields (length v.lent) ≡ some x
+  local-line : (counts : ℕ → Bool) (x : Body) → accepted h.world v.fields (length v.lent) ≡ Some x
       → (Holds h.world.opening (heard h.world.opening h.fresh x) s v.fields.point → ⊥)
       → (m : Measure) → line (terms_by counts h.world.opening) (fresh_facts (heard h.world.opening h.fresh x)) m s e
       ≡ line (terms_by counts h.world.opening) (fresh_facts h.fresh) m s e
@@ -322,9 +322,9 @@ module _ (h : History) (o : Opening) (i : Inv o h) (v : Event) (s e : ℕ) (b : 
       → (Holds h.world.opening (after h x).fresh s v.fields.point → ⊥)
       → line_query (after h x).world s e ≡ line_query h.world s e
   unfolding after step_by heard_body posted
-  local-after none c z = refl
-  local-after (some x) c z =
-      query_fresh (after h (some x)) o (inv_after o h i v x c) s e b
+  local-after None c z = refl
+  local-after (Some x) c z =
+      query_fresh (after h (Some x)) o (inv_after o h i v x c) s e b
       ∙ ap₂ line_named (local-line _ x c z Measure.quantity) (local-line _ x c z Measure.amount)
       ∙ sym (query_fresh h o i s e b)
 
@@ -334,21 +334,21 @@ module _ (h : History) (o : Opening) (i : Inv o h) (v : Event) (s e : ℕ) (b : 
 
 -- an accepted message of kind 8 is a round
 round-accepted : (w : World) (v : Event) → v.fields.kind ≡ 8 → answer w v.fields (length v.lent) ≡ 0
-    → accepted w v.fields (length v.lent) ≡ some Round
+    → accepted w v.fields (length v.lent) ≡ Some Round
 unfolding accepted body_in
 round-accepted w v k a =
     let c = behind w v.fields (length v.lent) 0 (λ n x y z. omega arith) a in
     rw (a, c.is, round-body w.opening.suppliers v.fields k c.message c.is)
 
 -- after an accepted round the records add up to the line
-round-total : (h : History) (o : Opening) → Inv o h → Inv o (after h (some Round)) → (m : Measure) (s e : ℕ)
+round-total : (h : History) (o : Opening) → Inv o h → Inv o (after h (Some Round)) → (m : Measure) (s e : ℕ)
     → InBook h.world.opening s e
-    → total m s e (after h (some Round)).records ≡ named m (line_query (after h (some Round)).world s e)
+    → total m s e (after h (Some Round)).records ≡ named m (line_query (after h (Some Round)).world s e)
 unfolding after step_by posted sent_after is_round tables_after told
 round-total h o i j m s e b =
-    j.sent m s e b ∙ i.lines m s e b ∙ sym (j.lines m s e b) ∙ sym (named-stored (after h (some Round)).world j.whole s e b m)
+    j.sent m s e b ∙ i.lines m s e b ∙ sym (j.lines m s e b) ∙ sym (named-stored (after h (Some Round)).world j.whole s e b m)
 
-rounds_of : (h : History) (o : Opening) → Inv o h → (v : Event) → accepted h.world v.fields (length v.lent) ≡ some Round
+rounds_of : (h : History) (o : Opening) → Inv o h → (v : Event) → accepted h.world v.fields (length v.lent) ≡ Some Round
     → (m : Measure) (s e : ℕ) → InBook h.world.opening s e
     → total m s e (advance h v).records ≡ named m (line_query (advance h v).world s e)
 rounds_of h o i v c m s e b = rw (advance-is h v, c) (round-total h o i (inv_after o h i v Round c) m s e b)
@@ -371,12 +371,12 @@ round-line w c s e b =
         ∙ rw (less_itself (line (terms_of w.opening) (facts_of w.opening w.position.tables) m s e), +ℤ_idr))
 
 -- what was sent is then the line, and so the last balance is
-round-balance : (h : History) (o : Opening) → Inv o (after h (some Round)) → (s e : ℕ) → InBook h.world.opening s e
-    → LastStands s e (after h (some Round)).records (after h (some Round)).world
+round-balance : (h : History) (o : Opening) → Inv o (after h (Some Round)) → (s e : ℕ) → InBook h.world.opening s e
+    → LastStands s e (after h (Some Round)).records (after h (Some Round)).world
 unfolding after step_by posted sent_after is_round
 round-balance h o j s e b r l = j.balance s e b r l ∙ round-line h.world j.whole s e b
 
-balance-at : (h : History) (o : Opening) → Inv o h → (v : Event) → accepted h.world v.fields (length v.lent) ≡ some Round
+balance-at : (h : History) (o : Opening) → Inv o h → (v : Event) → accepted h.world v.fields (length v.lent) ≡ Some Round
     → (s e : ℕ) → InBook h.world.opening s e → LastStands s e (advance h v).records (advance h v).world
 balance-at h o i v c s e b = rw (advance-is h v, c) (round-balance h o (inv_after o h i v Round c) s e b)
 
@@ -392,11 +392,11 @@ is-round (Block p v) h = absurd (false≢true h)
 is-round Round h = refl
 
 -- a message that writes records is a round
-round-written : (w : World) (x : Option Body) (r : Record) → Memᴰ r (written_by w x) → x ≡ some Round
+round-written : (w : World) (x : Option Body) (r : Record) → Memᴰ r (written_by w x) → x ≡ Some Round
 unfolding written_by written
-round-written w none r m = absurd (Memᴰ.not-nil m)
-round-written w (some b) r m = cases (is_round b)
-    (λ t. ap some (is-round b t))
+round-written w None r m = absurd (Memᴰ.not-nil m)
+round-written w (Some b) r m = cases (is_round b)
+    (λ t. ap Some (is-round b t))
     (λ t. absurd (Memᴰ.not-nil (rw t at m)))
 
 -- Each record that a message writes carries what the line query answers after it, of whatever book: one that is not well formed refuses.
@@ -450,9 +450,9 @@ module _ (w : World) (a : opening_answer w ≡ 0) (vs : List Event) where
     unfolding advance
     each_next r m = rw (snoc v) (record_carries x.world v.fields (length v.lent) r m)
 
-    full-next : (b : Message) → understood w.opening.suppliers v.fields ≡ some b
+    full-next : (b : Message) → understood w.opening.suppliers v.fields ≡ Some b
         → answer x.world v.fields (length v.lent) ≡ 17 → rows_fit (tables_after x.world b.body) ≡ false
-    full-next = subst (λ (o : Opening). (b : Message) → understood o.suppliers v.fields ≡ some b
+    full-next = subst (λ (o : Opening). (b : Message) → understood o.suppliers v.fields ≡ Some b
         → answer x.world v.fields (length v.lent) ≡ 17 → rows_fit (tables_after x.world b.body) ≡ false)
         i.opening (full_of x w.opening i v)
 

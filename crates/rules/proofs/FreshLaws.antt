@@ -2,7 +2,7 @@
 use mathlib.Core.Path.{◌≡◌, refl, sym, ap}
 use Prim.Native.Nat.{ℕ, ◌+◌, ◌<◌}
 use mathlib.Core.Bool.{Bool, false}
-use mathlib.Core.Option.{some}
+use Rattle.std.specs.Prelude.{Some}
 use lib.Dec.{eqb}
 use native.Mathlib.Omega.{arith}
 use borrow.Author.Tests.{ne_eqb}
@@ -26,11 +26,11 @@ pub record Unmoved (s v : Fresh) (r : ℕ) : Type 0 where
 unmoved_refl : (s : Fresh) (r : ℕ) → Unmoved s s r
 unmoved_refl s r = record { holder = λ d. refl; state = λ d. refl; reading = λ d h. refl; quantity = λ e d. refl }
 
-elsewhere : (p r : ℕ) → (some p ≡ some r → ⊥) → eqb r p ≡ false
-elsewhere p r n = ne_eqb r p (λ q. n (ap some (sym q)))
+elsewhere : (p r : ℕ) → (Some p ≡ Some r → ⊥) → eqb r p ≡ false
+elsewhere p r n = ne_eqb r p (λ q. n (ap Some (sym q)))
 
 -- a message says nothing of another point
-pub heard_other : (o : Opening) (s : Fresh) (b : Body) (r : ℕ) → (point_of b ≡ some r → ⊥) → Unmoved s (heard o s b) r
+pub heard_other : (o : Opening) (s : Fresh) (b : Body) (r : ℕ) → (point_of b ≡ Some r → ⊥) → Unmoved s (heard o s b) r
 unfolding heard point_of here relinked
 heard_other o s (Link p e a q) r n =
     record { holder = λ d. refl; state = λ d. refl; reading = λ d h. refl; quantity = λ x d. rw (elsewhere p r n) }

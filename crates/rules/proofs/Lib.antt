@@ -1,6 +1,7 @@
 -- The laws of the definitions and the proof of demand 3, each file above what it cites.
 pub mod Tests
 pub mod Ranges
+pub mod Chains
 pub mod ListFronts
 pub mod Words
 pub mod Clauses

@@ -4,7 +4,7 @@ use Prim.Native.Nat.{ℕ, zero, suc, ◌+◌, ◌-◌, ◌*◌, ◌/◌, ◌%◌
 use mathlib.Core.Path.{◌≡◌, refl, sym, ap, ◌∙◌}
 use mathlib.Core.Bool.{true, false, not, ◌&&◌, ◌||◌, cond, false≢true}
 use mathlib.Core.List.{List, [], ◌∷◌}
-use mathlib.Core.Option.{Option, none, some}
+use Rattle.std.specs.Prelude.{Option, None, Some}
 use lib.IntN.{ℤ, pos, negsuc, nat_abs, neg_ℤ, ◌-ℤ◌, ◌*ℤ◌}
 use lib.ListN.{length, get_or}
 use lib.Seq.{ext_get_or}
@@ -108,7 +108,7 @@ unfolding packed_bytes
 length-packed size sign = length-list_to (packed_byte size sign) packed_size
 
 -- an amount that fits is read as what it is
-pub read-packed : (a : ℤ) → fits a ≡ true → read_packed (packed a) ≡ some a
+pub read-packed : (a : ℤ) → fits a ≡ true → read_packed (packed a) ≡ Some a
 unfolding read_packed when is_packed sign_right packed_amount fits
 read-packed (pos n) h =
     let d = digits_back n sign_above (ltb-true _ _ h) (omega arith) in
@@ -218,16 +218,16 @@ module _ (bs : List ℕ) (h : IsPacked bs) where
   bytes_packed = rw (amount-read.0, amount-read.1) bytes_read
 
 -- bytes that are read as an amount are what packing it gives, and it fits
-pub packed-read : (bs : List ℕ) (a : ℤ) → read_packed bs ≡ some a → (bs ≡ packed a) × (fits a ≡ true)
+pub packed-read : (bs : List ℕ) (a : ℤ) → read_packed bs ≡ Some a → (bs ≡ packed a) × (fits a ≡ true)
 unfolding read_packed when
 packed-read bs a h = cases (is_packed bs)
-    (λ t. let e : packed_amount bs ≡ a = let z : some (packed_amount bs) ≡ some a = rw t at h in cc in
+    (λ t. let e : packed_amount bs ≡ a = let z : Some (packed_amount bs) ≡ Some a = rw t at h in cc in
     let p = packed_parts bs t in rw (← e) (bytes_packed bs p, amount-fits bs p))
-    (λ t. let z : ◌≡◌ {A = Option ℤ} none (some a) = rw t at h in absurd (none_some a z))
+    (λ t. let z : ◌≡◌ {A = Option ℤ} None (Some a) = rw t at h in absurd (none_some a z))
 
 -- "every amount that fits has one form": the bytes that are read as it are those that packing gives, and no others
 pub one_form : (a : ℤ) → fits a ≡ true → (bs : List ℕ)
-    → (read_packed bs ≡ some a → bs ≡ packed a) × (bs ≡ packed a → read_packed bs ≡ some a)
+    → (read_packed bs ≡ Some a → bs ≡ packed a) × (bs ≡ packed a → read_packed bs ≡ Some a)
 one_form a h bs = (λ r. (packed-read bs a r).0, λ p. ap read_packed p ∙ read-packed a h)
 
 -- ---- rounding
@@ -253,10 +253,10 @@ unfolding nearest
 ore_known = (refl, refl, refl, refl, refl)
 
 -- minus zero, a digit above 9, another sign, and seven bytes are no packed numbers
-pub none_known : (read_packed (0x00 ∷ 0x00 ∷ 0x00 ∷ 0x00 ∷ 0x00 ∷ 0x00 ∷ 0x00 ∷ 0x0d ∷ []) ≡ none)
-    × (read_packed (0x00 ∷ 0x00 ∷ 0x00 ∷ 0x0a ∷ 0x00 ∷ 0x00 ∷ 0x00 ∷ 0x0c ∷ []) ≡ none)
-    × (read_packed (0x00 ∷ 0x00 ∷ 0x00 ∷ 0x00 ∷ 0x00 ∷ 0x00 ∷ 0x00 ∷ 0x1f ∷ []) ≡ none)
-    × (read_packed (0x00 ∷ 0x00 ∷ 0x00 ∷ 0x00 ∷ 0x00 ∷ 0x00 ∷ 0x1c ∷ []) ≡ none)
+pub none_known : (read_packed (0x00 ∷ 0x00 ∷ 0x00 ∷ 0x00 ∷ 0x00 ∷ 0x00 ∷ 0x00 ∷ 0x0d ∷ []) ≡ None)
+    × (read_packed (0x00 ∷ 0x00 ∷ 0x00 ∷ 0x0a ∷ 0x00 ∷ 0x00 ∷ 0x00 ∷ 0x0c ∷ []) ≡ None)
+    × (read_packed (0x00 ∷ 0x00 ∷ 0x00 ∷ 0x00 ∷ 0x00 ∷ 0x00 ∷ 0x00 ∷ 0x1f ∷ []) ≡ None)
+    × (read_packed (0x00 ∷ 0x00 ∷ 0x00 ∷ 0x00 ∷ 0x00 ∷ 0x00 ∷ 0x1c ∷ []) ≡ None)
 unfolding read_packed is_packed digits_right sign_right digits_in half_in all_to when
 none_known = (refl, refl, refl, refl)
 

@@ -3,7 +3,7 @@ use Prim.Native.Nat.{ℕ, ◌+◌, ◌≤◌, ◌<◌}
 use mathlib.Core.Path.{◌≡◌, refl, sym, ap, ◌∙◌, subst}
 use mathlib.Core.Logic.{◌≢◌}
 use mathlib.Core.Bool.{Bool, true, false, not, ◌&&◌, ◌||◌, cond}
-use mathlib.Core.Option.{Option, none, some}
+use Rattle.std.specs.Prelude.{Option, None, Some}
 use lib.Dec.{leb, ltb, eqb}
 use lib.ListN.{length}
 use borrow.Author.Tests.{eqb-true, eq-eqb, leb-true, ltb-true, not-true}
@@ -41,26 +41,26 @@ pub record Understands (suppliers : ℕ) (f : Fields) (m : Message) : Type 0 whe
   pub body : m.body ≡ body_named f
 
 module _ (suppliers : ℕ) (f : Fields) where
-  body-named : (b : Body) → body_of suppliers f ≡ some b
+  body-named : (b : Body) → body_of suppliers f ≡ Some b
       → (fields_right f ≡ true) × (value_fits suppliers f.kind f.value ≡ true) × (b ≡ body_named f)
   unfolding body_of when
   body-named b e = cases (fields_right f && value_fits suppliers f.kind f.value)
-      (λ t. let e' : some (body_named f) ≡ some b = rw t at e in
+      (λ t. let e' : Some (body_named f) ≡ Some b = rw t at e in
       let k = both (fields_right f) (value_fits suppliers f.kind f.value) t in
       (k.0, k.1, (cc)))
-      (λ t. let e' : none ≡ some b = rw t at e in let z : ◌≡◌ {A = ℕ} 0 1 = cc in absurd (omega arith))
+      (λ t. let e' : None ≡ Some b = rw t at e in let z : ◌≡◌ {A = ℕ} 0 1 = cc in absurd (omega arith))
 
-  pub understands : (m : Message) → understood suppliers f ≡ some m → Understands suppliers f m
+  pub understands : (m : Message) → understood suppliers f ≡ Some m → Understands suppliers f m
   unfolding understood both_of is_day
   understands m e = cases (is_day f.received)
       (λ t. go (ltb-true _ _ t) (sender_of suppliers f) (body_of suppliers f) refl (rw t at e))
-      (λ t. let e' : none ≡ some m = rw t at e in let z : ◌≡◌ {A = ℕ} 0 1 = cc in absurd (omega arith))
+      (λ t. let e' : None ≡ Some m = rw t at e in let z : ◌≡◌ {A = ℕ} 0 1 = cc in absurd (omega arith))
     where
-      go : f.received < end_of_days → (o : Option Sender) (c : Option Body) → body_of suppliers f ≡ c → both_of f.received o c ≡ some m
+      go : f.received < end_of_days → (o : Option Sender) (c : Option Body) → body_of suppliers f ≡ c → both_of f.received o c ≡ Some m
           → Understands suppliers f m
-      go d none c q h = let z : ◌≡◌ {A = ℕ} 0 1 = cc in absurd (omega arith)
-      go d (some s) none q h = let z : ◌≡◌ {A = ℕ} 0 1 = cc in absurd (omega arith)
-      go d (some s) (some c) q h =
+      go d None c q h = let z : ◌≡◌ {A = ℕ} 0 1 = cc in absurd (omega arith)
+      go d (Some s) None q h = let z : ◌≡◌ {A = ℕ} 0 1 = cc in absurd (omega arith)
+      go d (Some s) (Some c) q h =
           let z : m ≡ record { sender = s; received = f.received; body = c } = cc in
           let k = body-named c q in
           record { day = d; fields = k.0; value = k.1; received = rw z; body = rw z k.2 }
@@ -102,7 +102,7 @@ module _ (suppliers : ℕ) (f : Fields) where
   unfolding is_quantity
   a_quantity h = (within_low 1 most_quantity f.value h, within-high 1 most_quantity f.value h)
 
-  pub ranged : (m : Message) → understood suppliers f ≡ some m → Ranged suppliers m.body
+  pub ranged : (m : Message) → understood suppliers f ≡ Some m → Ranged suppliers m.body
   unfolding fields_right value_fits within
   ranged m e =
       let u = understands suppliers f m e in
@@ -123,10 +123,10 @@ module _ (suppliers : ℕ) (f : Fields) where
       })
 
   -- a message is about the point that its fields name, or about none
-  pub about : (m : Message) → understood suppliers f ≡ some m → (p : ℕ) → point_of m.body ≡ some p → p ≡ f.point
+  pub about : (m : Message) → understood suppliers f ≡ Some m → (p : ℕ) → point_of m.body ≡ Some p → p ≡ f.point
   unfolding point_of
   about m e =
-      rw (understands suppliers f m e).body (by_kind_lem f (λ b. (p : ℕ) → point_of b ≡ some p → p ≡ f.point) record {
+      rw (understands suppliers f m e).body (by_kind_lem f (λ b. (p : ℕ) → point_of b ≡ Some p → p ≡ f.point) record {
         link = λ _ p e. cc;
         stop = λ _ p e. cc;
         quantity = λ _ p e. cc;
@@ -138,7 +138,7 @@ module _ (suppliers : ℕ) (f : Fields) where
       })
 
   -- kind 8 is a round
-  pub round-body : f.kind ≡ 8 → (m : Message) → understood suppliers f ≡ some m → m.body ≡ Round
+  pub round-body : f.kind ≡ 8 → (m : Message) → understood suppliers f ≡ Some m → m.body ≡ Round
   unfolding body_named
   round-body k m e = (understands suppliers f m e).body ∙ rw k
 
@@ -180,7 +180,7 @@ module _ (o : Opening) (t : Tables) where
   unfolding question8 asked place_of tariff_once
   element-quantity p e d q h = ltb-true _ _ (both (ltb e o.elements) true h).0
 
-  pub point-inside : (b : Body) (p : ℕ) → point_of b ≡ some p → question7 o b ≡ true → p < o.points
+  pub point-inside : (b : Body) (p : ℕ) → point_of b ≡ Some p → question7 o b ≡ true → p < o.points
   unfolding question7 asked
   point-inside b p e h = ltb-true p o.points (rw e at h)
 
@@ -209,15 +209,15 @@ own_passed o t Round rest k h a = unfold own_question ask in (refl, a)
 pub record Behind (w : World) (f : Fields) (room k : ℕ) : Type 0 where
   pub whole : Whole w
   pub message : Message
-  pub is : understood w.opening.suppliers f ≡ some message
+  pub is : understood w.opening.suppliers f ≡ Some message
   pub ready : Ready w.opening w.position.tables message.body
   pub rest : ask (question17 w message.body) 17 (ask (question18 w message.body room) 18 0) ≡ k
 
 module _ (w : World) (f : Fields) (room k : ℕ) (h : (n : ℕ) → 2 ≤ n → n ≤ 16 → n ≢ k) where
   behind-message : Whole w → (x : Option Message) → understood w.opening.suppliers f ≡ x → answer_to w x room ≡ k → Behind w f room k
   unfolding answer_to
-  behind-message c none u e = absurd (h 6 (omega arith) (omega arith) e)
-  behind-message c (some m) u e =
+  behind-message c None u e = absurd (h 6 (omega arith) (omega arith) e)
+  behind-message c (Some m) u e =
       let a7 = asked_passed (question7 w.opening m.body) 7 _ k (h 7 (omega arith) (omega arith)) e in
       let a8 = asked_passed (question8 w.opening m.body) 8 _ k (h 8 (omega arith) (omega arith)) a7.1 in
       let a9 = asked_passed (question9 w.opening w.position.tables m.sender m.body) 9 _ k (h 9 (omega arith) (omega arith))
@@ -271,17 +271,17 @@ pub record Taken (w : World) (f : Fields) (room : ℕ) (b : Body) : Type 0 where
   pub zero : answer w f room ≡ 0
   pub whole : Whole w
   pub message : Message
-  pub is : understood w.opening.suppliers f ≡ some message
+  pub is : understood w.opening.suppliers f ≡ Some message
   pub body : message.body ≡ b
   pub ready : Ready w.opening w.position.tables b
   pub fits : question17 w b ≡ true
 
-pub taken : (w : World) (f : Fields) (room : ℕ) (b : Body) → accepted w f room ≡ some b → Taken w f room b
+pub taken : (w : World) (f : Fields) (room : ℕ) (b : Body) → accepted w f room ≡ Some b → Taken w f room b
 unfolding accepted body_in
 taken w f room b e = cases (eqb (answer w f room) 0)
     (λ t. let z = eqb-true (answer w f room) 0 t in
     let c = behind w f room 0 (λ n i j k. omega arith) z in
-    let y : some c.message.body ≡ some b = let k : body_in (understood w.opening.suppliers f) ≡ some b = rw t at e in
+    let y : Some c.message.body ≡ Some b = let k : body_in (understood w.opening.suppliers f) ≡ Some b = rw t at e in
     rw c.is at k in
     let x : c.message.body ≡ b = cc in
     record {
@@ -293,18 +293,18 @@ taken w f room b e = cases (eqb (answer w f room) 0)
       ready = subst (Ready w.opening w.position.tables) x c.ready;
       fits = subst (λ b'. question17 w b' ≡ true) x (asked_passed (question17 w c.message.body) 17 _ 0 (λ k. omega arith) c.rest).0;
     })
-    (λ t. let e' : none ≡ some b = rw t at e in let z : ◌≡◌ {A = ℕ} 0 1 = cc in absurd (omega arith))
+    (λ t. let e' : None ≡ Some b = rw t at e in let z : ◌≡◌ {A = ℕ} 0 1 = cc in absurd (omega arith))
 
 -- ---- the records of a message fit the list that is lent with it
 
 module _ (w : World) (f : Fields) (room : ℕ) where
   written_fit : (x : Option Body) → accepted w f room ≡ x → length (written_by w x) ≤ room
   unfolding written_by question18
-  written_fit none e = omega arith
-  written_fit (some b) e =
+  written_fit None e = omega arith
+  written_fit (Some b) e =
       let t = taken w f room b e in
       let k = behind w f room 0 (λ n i j l. omega arith) t.zero in
-      let q : some k.message ≡ some t.message = sym k.is ∙ t.is in
+      let q : Some k.message ≡ Some t.message = sym k.is ∙ t.is in
       let m : k.message ≡ t.message = cc in
       let z : k.message.body ≡ b = ap (λ x. x.body) m ∙ t.body in
       let p = asked_passed (question17 w k.message.body) 17 _ 0 (λ n. omega arith) k.rest in

@@ -3,7 +3,7 @@ use Prim.Native.Nat.{ℕ, zero, suc, ◌+◌, ◌≤◌, ◌<◌}
 use mathlib.Core.Path.{◌≡◌, refl, ap, ap₂, ◌∙◌}
 use mathlib.Core.Bool.{Bool, true, false, and-false}
 use mathlib.Core.List.{List, [], ◌∷◌}
-use mathlib.Core.Option.{Option, none, some}
+use Rattle.std.specs.Prelude.{Option, None, Some}
 use lib.ListN.{length, get_or, set, replicate, length-append, get_or-append, take, drop}
 use lib.Seq.{get_or_at}
 use lib.Dec.{leb, eqb}
@@ -98,17 +98,17 @@ unfolding latest
 latest_cong f g zero h = ap (λ x. or_else x 0) (h zero)
 latest_cong f g (suc d) h = ap₂ or_else (h (suc d)) (latest_cong f g d h)
 
-pub latest_none : (d : ℕ) → latest (λ i. none) d ≡ 0
+pub latest_none : (d : ℕ) → latest (λ i. None) d ≡ 0
 unfolding latest or_else
 latest_none zero = refl
 latest_none (suc d) = latest_none d
 
-or_else-high : (o : Option ℕ) (n d : ℕ) → ((v : ℕ) → o ≡ some v → v ≤ n) → d ≤ n → or_else o d ≤ n
+or_else-high : (o : Option ℕ) (n d : ℕ) → ((v : ℕ) → o ≡ Some v → v ≤ n) → d ≤ n → or_else o d ≤ n
 unfolding or_else
-or_else-high none n d h k = k
-or_else-high (some v) n d h k = h v refl
+or_else-high None n d h k = k
+or_else-high (Some v) n d h k = h v refl
 
-pub latest-high : (f : ℕ → Option ℕ) (n d : ℕ) → ((i v : ℕ) → f i ≡ some v → v ≤ n) → latest f d ≤ n
+pub latest-high : (f : ℕ → Option ℕ) (n d : ℕ) → ((i v : ℕ) → f i ≡ Some v → v ≤ n) → latest f d ≤ n
 unfolding latest
 latest-high f n zero h = or_else-high (f zero) n 0 (h zero) (omega arith)
 latest-high f n (suc d) h = or_else-high (f (suc d)) n (latest f d) (h (suc d)) (latest-high f n d h)

@@ -5,7 +5,7 @@ use Prim.Native.Nat.{ℕ, zero, suc, ◌+◌, ◌-◌, ◌*◌, ◌≤◌, ◌<�
 use mathlib.Core.Bool.{true, false, ◌&&◌, cond}
 use mathlib.Core.List.Memᴰ
 use mathlib.Core.List.{List, [], ◌∷◌, ◌++◌, Memᴰ}
-use mathlib.Core.Option.{Option, none, some}
+use Rattle.std.specs.Prelude.{Option, None, Some}
 use mathlib.Core.Logic.{⊎_elim}
 use lib.IntN.{ℤ, pos, negsuc, nat_abs, ◌+ℤ◌, +ℤ_idl, +ℤ_idr, +ℤ_assoc}
 use lib.Dec.{eqb}
@@ -158,11 +158,11 @@ module _ (s e : ℕ) where
       → last_record s e found (xs ++ ys) ≡ last_record s e (last_record s e found xs) ys
   unfolding last_record
   last-append found [] ys = refl
-  last-append found (r ∷ rs) ys = last-append (cond (is_of s e r) (some r) found) rs ys
+  last-append found (r ∷ rs) ys = last-append (cond (is_of s e r) (Some r) found) rs ys
 
   -- a line's own record comes last, where there is one
   unfoldable last_own : World → Option Record → Option Record
-  last_own w found = cond (unmoved w s e) found (some (record_of w s e))
+  last_own w found = cond (unmoved w s e) found (Some (record_of w s e))
 
   last-own : (w : World) (found : Option Record) → last_record s e found (record_for w s e) ≡ last_own w found
   unfolding record_for last_record record_of last_own
@@ -209,14 +209,14 @@ module _ (s e : ℕ) where
 
 -- where the last balance of a line is what was sent, it is the line after one round more
 pub last-round : (w : World) (xs : List Record) (s e : ℕ) → InBook w.opening s e
-    → ((r : Record) → last_record s e none xs ≡ some r → balance_of r ≡ stored_line w.opening w.sent.totals s e)
-    → (r : Record) → last_record s e none (xs ++ records w) ≡ some r
+    → ((r : Record) → last_record s e None xs ≡ Some r → balance_of r ≡ stored_line w.opening w.sent.totals s e)
+    → (r : Record) → last_record s e None (xs ++ records w) ≡ Some r
     → balance_of r ≡ stored_line w.opening w.position.lines s e
 unfolding last_own
 last-round w xs s e b h r l =
-    let k : last_own s e w (last_record s e none xs) ≡ some r =
-    sym (last-append s e none xs (records w) ∙ last-records s e w b (last_record s e none xs)) ∙ l in
+    let k : last_own s e w (last_record s e None xs) ≡ Some r =
+    sym (last-append s e None xs (records w) ∙ last-records s e w b (last_record s e None xs)) ∙ l in
     cases (unmoved w s e)
     (λ q. h r (rw q at k) ∙ same_line w s e q)
-    (λ q. let x : some (record_of w s e) ≡ some r = rw q at k in
+    (λ q. let x : Some (record_of w s e) ≡ Some r = rw q at k in
     let y : r ≡ record_of w s e = cc in ap balance_of y ∙ balance_record w s e)

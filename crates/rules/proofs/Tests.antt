@@ -3,7 +3,7 @@ use Prim.Native.Nat.{ℕ}
 use mathlib.Core.Path.{◌≡◌, refl, sym, ap₂, ◌∙◌}
 use mathlib.Core.Logic.{◌≢◌}
 use mathlib.Core.Bool.{Bool, true, false, ◌&&◌, ◌||◌, cond, false≢true}
-use mathlib.Core.Option.{Option, none, some}
+use Rattle.std.specs.Prelude.{Option, None, Some}
 use lib.Dec.{eqb}
 use borrow.Author.Tests.{ltb-true, ltb-false, leb-true, leb-false, eqb-true, eqb-false, le-leb, lt-leb, eq-eqb, ne_eqb}
 use native.Mathlib.Omega.{arith}
@@ -35,7 +35,7 @@ neither true b h = absurd (false≢true (sym h))
 neither false b h = (refl, h)
 
 -- none is not some
-pub none_some : {A : Type 0} (a : A) → ◌≡◌ {A = Option A} none (some a) → ⊥
+pub none_some : {A : Type 0} (a : A) → ◌≡◌ {A = Option A} None (Some a) → ⊥
 none_some a l = let z : ◌≡◌ {A = ℕ} 0 1 = cc in omega arith
 
 pub cond_same : {A : Type 0} (b : Bool) (x : A) → cond b x x ≡ x

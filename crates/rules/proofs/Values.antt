@@ -3,7 +3,7 @@ use Prim.Native.Nat.{ℕ, ◌+◌, ◌*◌, ◌/◌, ◌<◌}
 use mathlib.Core.Path.{◌≡◌, ◌∙◌}
 use mathlib.Core.Bool.{true, false, cond}
 use mathlib.Core.List.{List, [], ◌∷◌}
-use mathlib.Core.Option.{some}
+use Rattle.std.specs.Prelude.{Some}
 use lib.Dec.{ltb, eqb}
 use native.Mathlib.Omega.{arith}
 use Rattle.rules.specs.Sizes.{day_room}
@@ -23,7 +23,7 @@ module _ (size : ℕ) where
   dated_key p d w h = let k = both (eqb (value_point size w) p) (eqb (value_first size w) d) h in omega (arith, tests)
 
   recorded_record : (w p d : ℕ) (ws : List ℕ)
-      → recorded_on size (record_row size w ws) p d ≡ cond (dated size p d w) (some (value_of size w)) (recorded_on size ws p d)
+      → recorded_on size (record_row size w ws) p d ≡ cond (dated size p d w) (Some (value_of size w)) (recorded_on size ws p d)
   recorded_record w p d [] = simp (record_nil, recorded_cons)
   recorded_record w p d (x ∷ xs) = simp (record_cons, recorded_cons)
       (cases (eqb (x / size) (w / size))
@@ -40,7 +40,7 @@ module _ (size : ℕ) where
 
   -- the new value at its own point and day, the old one elsewhere
   pub recorded_pack : (p a v : ℕ) → a < day_room → v < size → (ws : List ℕ) (p' d : ℕ)
-      → recorded_on size (record_row size (pack_value size p a v) ws) p' d ≡ cond (here p a p' d) (some v) (recorded_on size ws p' d)
+      → recorded_on size (record_row size (pack_value size p a v) ws) p' d ≡ cond (here p a p' d) (Some v) (recorded_on size ws p' d)
   unfolding here
   recorded_pack p a v ha hv ws p' d =
       rw (

@@ -2,7 +2,7 @@
 use Prim.Native.Nat.{ℕ, suc, ◌/◌, ◌≤◌, ◌<◌}
 use mathlib.Core.Path.{◌≡◌, refl}
 use mathlib.Core.Bool.{Bool, true, ◌&&◌}
-use mathlib.Core.Option.{some}
+use Rattle.std.specs.Prelude.{Some}
 use mathlib.Core.List.{List, [], ◌∷◌}
 use lib.Dec.{ltb, eqb}
 use borrow.Author.Tests.{eqb-true, le-leb, lt-ltb, ltb-true}
@@ -83,7 +83,7 @@ module _ (size : ℕ) (pos : 0 < size) where
 
 -- no recorded value is above the limit
 pub recorded_high : (size low high : ℕ) (op : Opening) (rows : List ℕ) (p d v : ℕ) → all_in (value_right size low high op) rows ≡ true
-    → recorded_on size rows p d ≡ some v → v ≤ high
+    → recorded_on size rows p d ≡ Some v → v ≤ high
 unfolding all_in value_right
 recorded_high size low high op [] p d v h e = absurd (let e' = rw recorded_nil at e in let z : ◌≡◌ {A = ℕ} 0 1 = cc in omega arith)
 recorded_high size low high op (r ∷ rs) p d v h e =
@@ -91,7 +91,7 @@ recorded_high size low high op (r ∷ rs) p d v h e =
     let m = both (ltb (value_first size r) end_of_days) (within low high (value_of size r))
     (both (ltb (value_point size r) op.points) _ k.0).1 in
     cases (dated size p d r)
-    (λ t. let e' : some (value_of size r) ≡ some v = rw (recorded_cons, t) at e in
+    (λ t. let e' : Some (value_of size r) ≡ Some v = rw (recorded_cons, t) at e in
     let z : value_of size r ≡ v = cc in
     let l = within-high low high (value_of size r) m.1 in
     omega arith)

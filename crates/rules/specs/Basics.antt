@@ -1,7 +1,7 @@
 -- Tests over ranges and lists, the first number that passes one, and the latest of dated values: the words that the definitions are written
 -- in.
 use Rattle.std.specs.Prelude.{ℕ, zero, suc, Bool, true, false, ◌&&◌, ◌||◌, cond, List, [], ◌∷◌, ◌++◌, leb}
-use Rattle.std.proofs.Math.Option.{Option, none, some}
+use Rattle.std.specs.Prelude.{Option, None, Some}
 
 -- a ≤ x ≤ b
 unfoldable pub within : (low high x : ℕ) → Bool
@@ -40,22 +40,22 @@ list_to f (suc n) = list_to f n ++ (f n ∷ [])
 
 -- a value where a test holds
 unfoldable pub when : {A : Type 0} → Bool → A → Option A
-when holds a = cond holds (some a) none
+when holds a = cond holds (Some a) None
 
 -- a test of a value, passed where there is none
 unfoldable pub asked : {A : Type 0} → (A → Bool) → Option A → Bool
-asked test none = true
-asked test (some a) = test a
+asked test None = true
+asked test (Some a) = test a
 
 -- the value, or the other where there is none
 unfoldable pub or_else : Option ℕ → (other : ℕ) → ℕ
-or_else none other = other
-or_else (some v) other = v
+or_else None other = other
+or_else (Some v) other = v
 
 -- the first of n numbers from a on of which f holds
 unfoldable pub first_from : (ℕ → Bool) → (from count : ℕ) → Option ℕ
-first_from f a zero = none
-first_from f a (suc n) = cond (f a) (some a) (first_from f (suc a) n)
+first_from f a zero = None
+first_from f a (suc n) = cond (f a) (Some a) (first_from f (suc a) n)
 
 -- what was recorded on the latest day up to d, or 0 where nothing was
 unfoldable pub latest : ((day : ℕ) → Option ℕ) → (day : ℕ) → ℕ

@@ -1,7 +1,7 @@
 -- Demand 3, with what requests 7 and 11 say of such lists, as one claim about every opening and every list of messages.
 use Rattle.std.specs.Prelude.{◌≡◌, ℕ, suc, ◌+◌, ◌≤◌, ◌<◌, Bool, true, false, ◌&&◌, cond, ℤ, pos, nat_abs, ◌+ℤ◌, length, eqb}
 use mathlib.Core.List.{List, [], ◌∷◌, ◌++◌, Memᴰ}
-use Rattle.std.proofs.Math.Option.{Option, none, some}
+use Rattle.std.specs.Prelude.{Option, None, Some}
 use Rattle.integers.specs.Sums.{sum_to}
 use Rattle.rules.specs.declared.Fields.{Fields}
 use Rattle.rules.specs.declared.Message.{Message}
@@ -84,15 +84,15 @@ balance_of r =
 -- the last record of a line, or the one that was found before these
 unfoldable pub last_record : (supplier element : ℕ) → (found : Option Record) → List Record → Option Record
 last_record s e found [] = found
-last_record s e found (r ∷ rs) = last_record s e (cond (is_of s e r) (some r) found) rs
+last_record s e found (r ∷ rs) = last_record s e (cond (is_of s e r) (Some r) found) rs
 
 -- "for a line with records, the last balance equals their sum"
 abbrev pub LastBalance : (supplier element : ℕ) → List Record → Type 0
-LastBalance s e rs = (r : Record) → last_record s e none rs ≡ some r → balance_of r ≡ total_line s e rs
+LastBalance s e rs = (r : Record) → last_record s e None rs ≡ Some r → balance_of r ≡ total_line s e rs
 
 -- and it is the line as it stands: "and the line at that round"
 abbrev pub LastStands : (supplier element : ℕ) → List Record → World → Type 0
-LastStands s e rs w = (r : Record) → last_record s e none rs ≡ some r → balance_of r ≡ line_query w s e
+LastStands s e rs w = (r : Record) → last_record s e None rs ≡ Some r → balance_of r ≡ line_query w s e
 
 -- the supplier holds the point on some day of the month; "holders fresh settlement's"
 pub record Holds (o : Opening) (f : Fresh) (s p : ℕ) : Type 0 where
@@ -145,7 +145,7 @@ pub record Kept (w : World) (vs : List Event) : Type 0 where
   pub whole : Whole (reached w vs).world
   -- "An opened book never leaves the bounds": lines stay far inside them, and 17 is said only where rows do not fit
   pub small : (m : Measure) (s e : ℕ) → InBook w.opening s e → nat_abs (named m (line_query (reached w vs).world s e)) ≤ reached_limit m
-  pub full : (x : Split vs) (b : Message) → understood w.opening.suppliers x.message.fields ≡ some b
+  pub full : (x : Split vs) (b : Message) → understood w.opening.suppliers x.message.fields ≡ Some b
       → answer (reached w x.before).world x.message.fields (length x.message.lent) ≡ 17
       → rows_fit (tables_after (reached w x.before).world b.body) ≡ false
   -- request 11: "Every sum of a book reached from opening fits"

@@ -1,7 +1,7 @@
 -- What an accepted message does, the questions that look at the result (17, 18), the answer, and the step.
 use Rattle.std.specs.Prelude.{ℕ, zero, suc, ◌+◌, ◌/◌, ◌%◌, min, Bool, true, false, ◌&&◌, cond, List, [], ◌∷◌, ◌++◌}
 use Rattle.std.specs.Prelude.{ℤ, pos, ◌+ℤ◌, ◌-ℤ◌, nat_abs, length, drop, set, leb, eqb}
-use Rattle.std.proofs.Math.Option.{Option, none, some}
+use Rattle.std.specs.Prelude.{Option, None, Some}
 use Rattle.rules.specs.declared.Fields.{Fields}
 use Rattle.rules.specs.declared.Body.{Body}
 use Rattle.rules.specs.declared.Body.TheVariants.{Link, Stop, Quantity, Holder, State, Reading, Block, Round}
@@ -190,8 +190,8 @@ question18 w b room = leb (length (written w b)) room
 
 -- questions 6 to 18, of a message or of fields that question 6 refuses
 unfoldable pub answer_to : World → Option Message → (room : ℕ) → ℕ
-answer_to w none room = 6
-answer_to w (some m) room =
+answer_to w None room = 6
+answer_to w (Some m) room =
     ask (question7 w.opening m.body) 7
     (ask (question8 w.opening m.body) 8
     (ask (question9 w.opening w.position.tables m.sender m.body) 9
@@ -214,19 +214,19 @@ answer w f room = ask_book w (answer_to w (understood w.opening.suppliers f) roo
 
 -- the body of an accepted message
 unfoldable pub accepted : World → Fields → (room : ℕ) → Option Body
-accepted w f room = cond (eqb (answer w f room) 0) (body_in (understood w.opening.suppliers f)) none
+accepted w f room = cond (eqb (answer w f room) 0) (body_in (understood w.opening.suppliers f)) None
 
 -- "the book and everything lent remain unchanged" by a refusal
 unfoldable pub step_by : World → Option Body → World
-step_by w none = w
-step_by w (some b) = posted w b
+step_by w None = w
+step_by w (Some b) = posted w b
 
 unfoldable pub step : World → Fields → (room : ℕ) → World
 step w f room = step_by w (accepted w f room)
 
 unfoldable pub written_by : World → Option Body → List Record
-written_by w none = []
-written_by w (some b) = written w b
+written_by w None = []
+written_by w (Some b) = written w b
 
 -- the records that a message writes
 unfoldable pub records_of : World → Fields → (room : ℕ) → List Record

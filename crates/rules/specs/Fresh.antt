@@ -6,7 +6,7 @@
 -- holds up to the next (`latest`), which states count (`counting_states`), and the charge of a day with its sums (`charge`, `line` in
 -- Lines.antt).
 use Rattle.std.specs.Prelude.{ℕ, ◌+◌, ◌-◌, Bool, false, not, ◌&&◌, ◌||◌, cond, leb, ltb, eqb}
-use Rattle.std.proofs.Math.Option.{Option, none, some}
+use Rattle.std.specs.Prelude.{Option, None, Some}
 use Rattle.rules.specs.declared.Fields.{Fields}
 use Rattle.rules.specs.declared.Body.{Body}
 use Rattle.rules.specs.declared.Body.TheVariants.{Link, Stop, Quantity, Holder, State, Reading, Block, Round}
@@ -25,7 +25,7 @@ pub record Fresh : Type 0 where
 
 unfoldable pub nothing : Fresh
 nothing =
-    record { holder = λ p d. none; state = λ p d. none; reading = λ p d h. 0; quantity = λ p e d. 0; start = λ p e d. false }
+    record { holder = λ p d. None; state = λ p d. None; reading = λ p d h. 0; quantity = λ p e d. 0; start = λ p e d. false }
 
 -- are these the two numbers of the message
 unfoldable pub here : (a b : ℕ) → (x y : ℕ) → Bool
@@ -65,7 +65,7 @@ heard o s (Quantity p e a q) =
     relinked s p e (λ d old. cond (leb a d && goes_on (s.start p e) (s.quantity p e) a d) q old) (λ d old. eqb d a || old)
 heard o s (Holder p a h) =
     record {
-      holder = λ p' d. cond (here p a p' d) (some h) (s.holder p' d);
+      holder = λ p' d. cond (here p a p' d) (Some h) (s.holder p' d);
       state = s.state;
       reading = s.reading;
       quantity = s.quantity;
@@ -74,7 +74,7 @@ heard o s (Holder p a h) =
 heard o s (State p a v) =
     record {
       holder = s.holder;
-      state = λ p' d. cond (here p a p' d) (some v) (s.state p' d);
+      state = λ p' d. cond (here p a p' d) (Some v) (s.state p' d);
       reading = s.reading;
       quantity = s.quantity;
       start = s.start;
@@ -91,12 +91,12 @@ heard o s (Block p b) = s
 heard o s Round = s
 
 unfoldable pub heard_body : Opening → Fresh → Option Body → Fresh
-heard_body o s none = s
-heard_body o s (some b) = heard o s b
+heard_body o s None = s
+heard_body o s (Some b) = heard o s b
 
 -- one message with its answer
 unfoldable pub hear : Opening → Fresh → Fields → (answer : ℕ) → Fresh
-hear o s f answer = heard_body o s (cond (eqb answer 0) (body_in (understood o.suppliers f)) none)
+hear o s f answer = heard_body o s (cond (eqb answer 0) (body_in (understood o.suppliers f)) None)
 
 -- "Its lines are the sums, by holder and element, of what points owe on the month's days"
 unfoldable pub fresh_facts : Fresh → Facts

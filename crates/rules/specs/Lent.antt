@@ -1,6 +1,8 @@
 -- What is lent with a book, as one value, and the worlds that contracts speak of.
-use Rattle.std.specs.Prelude.{ℕ, List, [], ℤ}
+use Rattle.std.specs.Prelude.{◌≡◌, ℕ, List, [], ℤ}
 use Rattle.rules.specs.declared.Book.{Book}
+use Rattle.rules.specs.declared.Lent.{Lent}
+use Rattle.rules.specs.declared.OpenBook.{OpenBook}
 use Rattle.rules.specs.World.{Opening, Tables, World}
 
 -- every table that is lent
@@ -79,6 +81,40 @@ given element_data prices links holders states readings blocks lines sent =
       lines = lines;
       sent = sent;
     }
+
+-- the same where all of it is one value, to be read; and the worlds of it
+abbrev pub lists_of : Lent → Lists
+lists_of l =
+    given l.element_data.now l.prices.now l.links.now l.holders.now l.states.now l.readings.now l.blocks.now l.lines.now l.sent.now
+
+abbrev pub lent_opening : Lent → Opening
+lent_opening l = opening_in l.book (lists_of l)
+
+abbrev pub lent_tables : Lent → Tables
+lent_tables l = tables_in l.book (lists_of l)
+
+abbrev pub lent_world : Lent → World
+lent_world l = world_in l.book (lists_of l)
+
+-- the same of a book that is open
+abbrev pub open_lists : OpenBook → Lists
+open_lists b =
+    given b.element_data.now b.prices.now b.links.now b.holders.now b.states.now b.readings.now b.blocks.now b.lines.now b.sent.now
+
+abbrev pub open_world : OpenBook → World
+open_world b = world_in b.book (open_lists b)
+
+-- what is lent with a book that is open stays the same slices: their content alone changes, and element data and prices do not
+pub record SameLent (b c : OpenBook) : Type 0 where
+  pub element_data : c.element_data ≡ b.element_data
+  pub prices : c.prices ≡ b.prices
+  pub links : c.links.ghost_name ≡ b.links.ghost_name
+  pub holders : c.holders.ghost_name ≡ b.holders.ghost_name
+  pub states : c.states.ghost_name ≡ b.states.ghost_name
+  pub readings : c.readings.ghost_name ≡ b.readings.ghost_name
+  pub blocks : c.blocks.ghost_name ≡ b.blocks.ghost_name
+  pub lines : c.lines.ghost_name ≡ b.lines.ghost_name
+  pub sent : c.sent.ghost_name ≡ b.sent.ghost_name
 
 -- ---- what a function is lent that reads some tables: those, and whatever else there is
 

@@ -1,6 +1,6 @@
 -- Question 6: from the fields as they came to a message. "Is the kind 1 to 8 and is every field in range, unused ones 0?"
 use Rattle.std.specs.Prelude.{ℕ, Bool, true, false, ◌&&◌, ◌||◌, cond, leb, ltb, eqb}
-use Rattle.std.proofs.Math.Option.{Option, none, some}
+use Rattle.std.specs.Prelude.{Option, None, Some}
 use Rattle.rules.specs.declared.Fields.{Fields}
 use Rattle.rules.specs.declared.Sender.{Sender}
 use Rattle.rules.specs.declared.Sender.TheVariants.{GridCompany, Energinet, Supplier}
@@ -69,19 +69,19 @@ unfoldable pub body_of : (suppliers : ℕ) → Fields → Option Body
 body_of suppliers f = when (fields_right f && value_fits suppliers f.kind f.value) (body_named f)
 
 unfoldable pub both : (received : ℕ) → Option Sender → Option Body → Option Message
-both received none b = none
-both received (some s) none = none
-both received (some s) (some b) = some (record { sender = s; received = received; body = b })
+both received None b = None
+both received (Some s) None = None
+both received (Some s) (Some b) = Some (record { sender = s; received = received; body = b })
 
 -- the message, where question 6 passes
 unfoldable pub understood : (suppliers : ℕ) → Fields → Option Message
-understood suppliers f = cond (is_day f.received) (both f.received (sender_of suppliers f) (body_of suppliers f)) none
+understood suppliers f = cond (is_day f.received) (both f.received (sender_of suppliers f) (body_of suppliers f)) None
 
 -- 6: "Is the kind 1 to 8 and is every field in range, unused ones 0?"
 unfoldable pub question6 : Option Message → Bool
-question6 none = false
-question6 (some m) = true
+question6 None = false
+question6 (Some m) = true
 
 unfoldable pub body_in : Option Message → Option Body
-body_in none = none
-body_in (some m) = some m.body
+body_in None = None
+body_in (Some m) = Some m.body

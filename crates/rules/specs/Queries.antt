@@ -1,6 +1,6 @@
 -- The queries: "a query 2 to 5, then 6 for a supplier number (0 is refused), 7, 8". None changes anything.
 use Rattle.std.specs.Prelude.{ℕ, suc, ◌+◌, Bool, ◌&&◌, ◌||◌, cond, List, [], ◌∷◌, ℤ, pos, nat_abs, get_or, eqb, ltb}
-use Rattle.std.proofs.Math.Option.{Option}
+use Rattle.std.specs.Prelude.{Option}
 use Rattle.rules.specs.Basics.{within, any_to, first_from}
 use Rattle.rules.specs.Rows.{period_point, period_element, pair_rows}
 use Rattle.rules.specs.Lines.{Facts, Measure, line}

@@ -1,7 +1,7 @@
 -- Questions 7 to 16, each a test of what the opening fixes, of the tables and of the message. A question that does not concern a body
 -- passes.
 use Rattle.std.specs.Prelude.{ℕ, ◌+◌, ◌-◌, Bool, true, false, not, ◌&&◌, ◌||◌, get_or, leb, ltb, eqb}
-use Rattle.std.proofs.Math.Option.{Option, none, some}
+use Rattle.std.specs.Prelude.{Option, None, Some}
 use Rattle.rules.specs.declared.Sender.{Sender}
 use Rattle.rules.specs.declared.Sender.TheVariants.{GridCompany, Energinet, Supplier}
 use Rattle.rules.specs.declared.Body.{Body}
@@ -14,25 +14,25 @@ use Rattle.rules.specs.World.{grid_company, energinet, holder_on, state_on, not_
 
 -- the point that a message is about; a round is about none
 unfoldable pub point_of : Body → Option ℕ
-point_of (Link p e d q) = some p
-point_of (Stop p e d) = some p
-point_of (Quantity p e d q) = some p
-point_of (Holder p d h) = some p
-point_of (State p d s) = some p
-point_of (Reading p d h n) = some p
-point_of (Block p b) = some p
-point_of Round = none
+point_of (Link p e d q) = Some p
+point_of (Stop p e d) = Some p
+point_of (Quantity p e d q) = Some p
+point_of (Holder p d h) = Some p
+point_of (State p d s) = Some p
+point_of (Reading p d h n) = Some p
+point_of (Block p b) = Some p
+point_of Round = None
 
 -- what kinds 1 to 3 are about
 unfoldable pub place_of : Body → Option Place
-place_of (Link p e d q) = some (record { point = p; element = e; day = d })
-place_of (Stop p e d) = some (record { point = p; element = e; day = d })
-place_of (Quantity p e d q) = some (record { point = p; element = e; day = d })
-place_of (Holder p d h) = none
-place_of (State p d s) = none
-place_of (Reading p d h n) = none
-place_of (Block p b) = none
-place_of Round = none
+place_of (Link p e d q) = Some (record { point = p; element = e; day = d })
+place_of (Stop p e d) = Some (record { point = p; element = e; day = d })
+place_of (Quantity p e d q) = Some (record { point = p; element = e; day = d })
+place_of (Holder p d h) = None
+place_of (State p d s) = None
+place_of (Reading p d h n) = None
+place_of (Block p b) = None
+place_of Round = None
 
 -- 7: "Except for a round: is the point in the book (E10)?"
 unfoldable pub question7 : Opening → Body → Bool

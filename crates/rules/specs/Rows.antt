@@ -1,7 +1,7 @@
 -- Rows of the link, holder and state tables: packed words, what they say of a day, and what a message makes of them. "Periods are kept
 -- sorted by point, element, first day, holders and states by point, first day": a row is one word whose numeric order is that order.
 use Rattle.std.specs.Prelude.{ℕ, ◌+◌, ◌*◌, ◌/◌, ◌%◌, min, Bool, false, ◌&&◌, ◌||◌, cond, List, [], ◌∷◌, leb, ltb, eqb}
-use Rattle.std.proofs.Math.Option.{Option, none, some}
+use Rattle.std.specs.Prelude.{Option, None, Some}
 use Rattle.rules.specs.Sizes.{end_of_days, element_room, day_room, quantity_room, end_unit, first_unit, element_unit, point_unit}
 use Rattle.rules.specs.Basics.{keep}
 
@@ -94,9 +94,9 @@ value_of size w = w % size
 
 -- the value recorded for a point from that very day
 unfoldable pub recorded_on : (size : ℕ) → (rows : List ℕ) → (point day : ℕ) → Option ℕ
-recorded_on size [] p d = none
+recorded_on size [] p d = None
 recorded_on size (w ∷ ws) p d =
-    cond (eqb (value_point size w) p && eqb (value_first size w) d) (some (value_of size w)) (recorded_on size ws p d)
+    cond (eqb (value_point size w) p && eqb (value_first size w) d) (Some (value_of size w)) (recorded_on size ws p d)
 
 -- "one already recorded for D is replaced": a row goes in at its place, or replaces the row of the same point and day
 unfoldable pub record_row : (size row : ℕ) → (rows : List ℕ) → List ℕ

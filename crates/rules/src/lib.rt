@@ -1,6 +1,10 @@
-// The types that the entry points speak, in document 01's words: the book, a message as it comes, a message understood, a record,
-// and the answers. Every definition of document 01 stands in specs/; this crate has no functions.
+// The types that the entry points speak, in document 01's words: the book and what is lent with it, a message as it comes, a message
+// understood, a record, and the refusals with their numbers. Every definition of document 01 stands in specs/.
 #![tactic(auto)]
+
+ghost use Rattle.std.specs.Prelude.{◌≡◌};
+ghost use Rattle.rules.specs.Answers.{refusal_number, number_of};
+ghost use Rattle.rules.specs.Lent.{lists_of, open_lists};
 
 // ---- limits and sizes
 
@@ -137,7 +141,7 @@ pub const HOLDER_SIZE: u64 = 32;
 pub const STATE_SIZE: u64 = 8;
 
 // The book's own numbers; everything else is lent.
-#[derive(Clone, Copy)]
+#[derive(Clone, Copy, Debug, PartialEq, Eq)]
 pub struct Book {
     pub year: u64,
     pub month: u64,
@@ -155,8 +159,59 @@ pub struct Book {
     pub days: u64,
 }
 
-// A message as it came.
+// A book and all that is lent with it, to be read: element data and prices, the tables, the lines and what of them was sent.
 #[derive(Clone, Copy)]
+pub struct Lent<'a> {
+    pub book: Book,
+    pub element_data: &'a [u8],
+    pub prices: &'a [i64],
+    pub links: &'a [u64],
+    pub holders: &'a [u64],
+    pub states: &'a [u64],
+    pub readings: &'a [u32],
+    pub blocks: &'a [u8],
+    pub lines: &'a [i64],
+    pub sent: &'a [i64],
+}
+
+// A book that is open, and all that is lent with it: what a message reads, and the tables and lines that it writes.
+#[derive(Drop)]
+pub struct OpenBook<'a> {
+    pub book: Book,
+    pub element_data: &'a [u8],
+    pub prices: &'a [i64],
+    pub links: &'a mut [u64],
+    pub holders: &'a mut [u64],
+    pub states: &'a mut [u64],
+    pub readings: &'a mut [u32],
+    pub blocks: &'a mut [u8],
+    pub lines: &'a mut [i64],
+    pub sent: &'a mut [i64],
+}
+
+impl OpenBook<'_> {
+    // The same, to be read.
+    pub fn lent(&self) -> Lent<'_>
+        ensures book { result.book ≡ self.now.book }
+        ensures lists { lists_of result ≡ open_lists self.now }
+    {
+        Lent {
+            book: self.book,
+            element_data: self.element_data,
+            prices: self.prices,
+            links: self.links,
+            holders: self.holders,
+            states: self.states,
+            readings: self.readings,
+            blocks: self.blocks,
+            lines: self.lines,
+            sent: self.sent,
+        }
+    }
+}
+
+// A message as it came.
+#[derive(Clone, Copy, Debug, PartialEq, Eq)]
 pub struct Fields {
     pub kind: u64,
     pub role: u64,
@@ -170,7 +225,7 @@ pub struct Fields {
 }
 
 // Roles 1, 2 and 3; a supplier has its number.
-#[derive(Clone, Copy)]
+#[derive(Clone, Copy, Debug, PartialEq, Eq)]
 pub enum Sender {
     GridCompany,
     Energinet,
@@ -178,7 +233,7 @@ pub enum Sender {
 }
 
 // The eight bodies, kinds 1 to 8, each with its own data.
-#[derive(Clone, Copy)]
+#[derive(Clone, Copy, Debug, PartialEq, Eq)]
 pub enum Body {
     Link {
         point: u64,
@@ -221,7 +276,7 @@ pub enum Body {
 }
 
 // What kinds 1 to 3 are about: a point, an element and the given day.
-#[derive(Clone, Copy)]
+#[derive(Clone, Copy, Debug, PartialEq, Eq)]
 pub struct Place {
     pub point: u64,
     pub element: u64,
@@ -229,7 +284,7 @@ pub struct Place {
 }
 
 // A message whose fields are in range.
-#[derive(Clone, Copy)]
+#[derive(Clone, Copy, Debug, PartialEq, Eq)]
 pub struct Message {
     pub sender: Sender,
     pub received: u64,
@@ -237,7 +292,7 @@ pub struct Message {
 }
 
 // A line as it is computed with: the quantity, and the amount in its one form.
-#[derive(Clone, Copy)]
+#[derive(Clone, Copy, Debug, PartialEq, Eq)]
 pub struct Line {
     pub quantity: i64,
     pub kroner: i64,
@@ -245,7 +300,7 @@ pub struct Line {
 }
 
 // One record of a round: its kind, whose line it is, how far that has moved since the last round, and the line after this one.
-#[derive(Clone, Copy)]
+#[derive(Clone, Copy, Debug, PartialEq, Eq)]
 pub struct Record {
     pub kind: u64,
     pub supplier: u64,
@@ -254,10 +309,9 @@ pub struct Record {
     pub balance: Line,
 }
 
-// Accepted, or the question that says no: 1 to 18 are document 01's, 24 is request 11's.
-#[derive(Clone, Copy)]
-pub enum Answer {
-    Accepted,
+// The question that says no: 1 to 18 are document 01's, 24 is request 11's. What passes every question is `Ok`.
+#[derive(Clone, Copy, Debug, PartialEq, Eq)]
+pub enum Refusal {
     BrokenField,
     OutOfLimits,
     WrongLength,
@@ -279,21 +333,41 @@ pub enum Answer {
     NotPacked,
 }
 
-// What the line query answers.
-#[derive(Clone, Copy)]
-pub enum LineAnswer {
-    Line {
-        quantity: i64,
-        kroner: i64,
-        billionths: u64,
-    },
-    Refused(Answer),
+impl Refusal {
+    // The question's number.
+    pub fn number(self) -> u64
+        ensures { result ≡ refusal_number self }
+    {
+        match self {
+            Refusal::BrokenField => 1,
+            Refusal::OutOfLimits => 2,
+            Refusal::WrongLength => 3,
+            Refusal::WrongElement => 4,
+            Refusal::IllFormed => 5,
+            Refusal::OutOfRange => 6,
+            Refusal::UnknownPoint => 7,
+            Refusal::UnknownElement => 8,
+            Refusal::NotPermitted => 9,
+            Refusal::OutOfTime => 10,
+            Refusal::NotExisting => 11,
+            Refusal::Closed => 12,
+            Refusal::AlreadyLinked => 13,
+            Refusal::NothingToStop => 14,
+            Refusal::NoSuchQuantity => 15,
+            Refusal::OutsideMonth => 16,
+            Refusal::TableFull => 17,
+            Refusal::ListFull => 18,
+            Refusal::NotPacked => 24,
+        }
+    }
 }
 
-// What the query for the earliest day without a holder answers.
-#[derive(Clone, Copy)]
-pub enum DayAnswer {
-    Day(u64),
-    NoDay,
-    Refused(Answer),
+// The number of an answer: of the question that says no, or 0.
+pub fn number(answer: Result<(), Refusal>) -> u64
+    ensures { result ≡ number_of answer }
+{
+    match answer {
+        Ok(()) => 0,
+        Err(refusal) => refusal.number(),
+    }
 }

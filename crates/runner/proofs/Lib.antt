@@ -4,6 +4,7 @@ pub mod PartLaws
 pub mod OpenLaws
 pub mod TextLaws
 pub mod FoundLaws
+pub mod TellLaws
 pub mod ArmLaws
 pub mod ValueLaws
 pub mod RunLaws

@@ -9,8 +9,8 @@ use lib.IntN.{pos}
 use lib.ListN.{length, take, length-replicate}
 use lib.Seq.{length-take-le}
 use lib.Dec.{leb, eqb}
-use borrow.Author.Tests.{eq-eqb, ne_eqb, eqb-true, eqb-false, le-leb, lt-leb, leb-true, leb-false}
-use Rattle.calendar.specs.Gregorian.{InRange, days_of_month}
+use borrow.Author.Tests.{eq-eqb, ne_eqb, le-leb, lt-leb, leb-true, leb-false}
+use Rattle.calendar.specs.Gregorian.{InRange, days_of_month, first_day}
 use Rattle.rules.specs.Sizes.{element_size, hour_places, line_size, most_elements, price_places}
 use Rattle.rules.specs.declared.Book.{Book}
 use Rattle.rules.specs.World.{Opening, World, table_of, month_days, month_first, line_count}
@@ -26,15 +26,14 @@ use Rattle.rules.proofs.Passed.{asked_passed}
 use Rattle.rules.proofs.Begin.{passed, begin-whole}
 use Rattle.recording.specs.Opened.{cleared}
 use Rattle.recording.proofs.ClearLaws.{opened-cleared}
-use Rattle.file.specs.declared.fields.Phase.{Phase}
-use Rattle.file.specs.Lines.{longest_line, Written}
-use Rattle.file.specs.Program.{ended_by, Heading, collected, lent_for, settle_points, settle_answer}
+use Rattle.file.specs.Lines.{book_line, longest_line, Written}
+use Rattle.file.specs.Program.{Heading, collected, lent_for, settle_points, settle_answer}
 use Rattle.file.proofs.PlacedLaws.{loosened}
+use Rattle.runner.specs.declared.Progress.{Progress}
 use Rattle.runner.specs.declared.Advanced.{Advanced}
-use Rattle.runner.specs.Stages.{Stage, broken, line_of, opened_to, opening}
+use Rattle.runner.specs.Stages.{Stage, messages, broken, line_of, opened_to, opening}
 use Rattle.runner.specs.Parts.{Sized, Fitted, ends_of, fronts, fronts_world, fronts_opening, elements_answer, anew}
-use Rattle.runner.specs.Texts.{advanced_to, opened_over, opening_text}
-use Rattle.runner.specs.Holding.{HoldsValues, HoldsBook, Represents, Advances}
+use Rattle.runner.specs.Holding.{HoldsValues, Open, Represents, Advances}
 use Rattle.runner.proofs.PartLaws.{within, limited_fitted}
 
 -- ---- question 2
@@ -165,45 +164,32 @@ module _ (b : Book) (t : Lists) (h : Heading) (values : List (List ℕ)) (v : Ho
 
   -- ---- what the opening prints and leaves
 
-  module _ (t' : Lists) (s : Sized t) (question : ℕ) (a : question ≡ settle_answer (fronts_opening b t))
-      (c : question ≡ 0 → fronts (anew b) t' ≡ cleared (fronts (anew b) t)) (out out' : List ℕ) (at from : ℕ) (last : Bool) (y : Book)
-      (f : question ≡ 0 → y ≡ anew b) (r : Advanced)
-      (w : Written longest_line out out' from r.written (opening_text y question))
-      (e : r ≡ advanced_to Phase.Messages (opened_over question last) y 1 at r.written)
-    where
-      opened-holds : (x : World) (l : Bool) → HoldsBook (anew b) t' x
-          → Represents (advanced_to Phase.Messages l (anew b) 1 at r.written).progress t' (opened_to l x)
-      opened-holds x true k = refl
-      opened-holds x false k = (refl, refl, k, refl)
+  pub book_opens : (t' : Lists) → Sized t → settle_answer (fronts_opening b t) ≡ 0
+      → fronts (anew b) t' ≡ cleared (fronts (anew b) t) → (out out' : List ℕ) (at from written : ℕ) (last : Bool) (p : Progress)
+      → ((x : World) → Open (anew b) 1 t' (messages x 1) → Represents p t' (opened_to last x))
+      → Written longest_line out out' from written (book_line b.year b.month (days_of_month b.year b.month) (first_day b.year b.month))
+      → Advances (opening at (collected h values) (opened_to last)) (record { progress = p; next = at; written = written }) t' out out' from
+  unfolding opening line_of month_days month_first ends_of
+  book_opens t' s k c out out' at from written last p r w =
+      let z = settles (fronts_opening b t) k in
+      let same : fronts_world (anew b) t' ≡ opened (lent_for (fronts_opening b t)) = opened_parts b t s k t' c in
+      rw (← opening_in_lem at (opened_to last), k) (record {
+        holds = r (opened (lent_for (fronts_opening b t))) (record {
+          is = rw same;
+          holds = record { whole = subst (λ (x : World). Whole x) (sym same) z.whole; points = z.points };
+        });
+        text = loosened (omega arith) w;
+        place = refl;
+      })
 
-      abbrev Done : Type 0
-      Done = Advances (opening at (collected h values) (opened_to last)) r.progress t' out out' r.next from r.written
-
-      book-opens : question ≡ 0 → Done
-      unfolding opening line_of month_days month_first opening_text ends_of
-      book-opens z =
-          let k : settle_answer (fronts_opening b t) ≡ 0 = sym a ∙ z in
-          let p = settles (fronts_opening b t) k in
-          let same : fronts_world (anew b) t' ≡ opened (lent_for (fronts_opening b t)) = opened_parts b t s k t' (c z) in
-          rw (← opening_in_lem at (opened_to last), e, f z, z, k) (record {
-            holds = opened-holds (opened (lent_for (fronts_opening b t))) last
-                (record { world = sym same; whole = p.whole; points = p.points });
-            text = loosened (omega arith) (rw (f z, z) at w);
-            place = refl;
-          })
-
-      book_stays : question ≢ 0 → Done
-      unfolding opening broken ended_by opening_text
-      book_stays z =
-          let k : settle_answer (fronts_opening b t) ≢ 0 = λ y. z (a ∙ y) in
-          rw (← opening_in_lem at (opened_to last), e, ne_eqb question 0 z, ne_eqb (settle_answer (fronts_opening b t)) 0 k) (record {
-            holds = refl;
-            text = loosened (omega arith) (rw (ne_eqb question 0 z, a) at w);
-            place = refl;
-          })
-
-      pub opening_advances : Done
-      opening_advances = cases (eqb question 0) (λ x. book-opens (eqb-true _ _ x)) (λ x. book_stays (eqb-false _ _ x))
+  pub book_stays : (question : ℕ) → question ≡ settle_answer (fronts_opening b t) → question ≢ 0
+      → (t' : Lists) (out out' : List ℕ) (at from : ℕ) (last : Bool) (a : Advanced)
+      → Advances (broken at question) a t' out out' from
+      → Advances (opening at (collected h values) (opened_to last)) a t' out out' from
+  unfolding opening
+  book_stays question e z t' out out' at from last a v =
+      let k : settle_answer (fronts_opening b t) ≢ 0 = λ y. z (e ∙ y) in
+      rw (← opening_in_lem at (opened_to last), ne_eqb (settle_answer (fronts_opening b t)) 0 k, ← e) v
 
 -- the book that is opened fits the tables, and has the dates of its month
 pub fresh-ready : (b : Book) (t : Lists) → Sized t → settle_answer (fronts_opening b t) ≡ 0 → Fitted (anew b) × Dated (anew b)

@@ -5,7 +5,7 @@ use native.Mathlib.Omega.{arith}
 use mathlib.Core.Path.{◌≡◌, refl, sym, ap, ◌∙◌}
 use mathlib.Core.Bool.{Bool, true, cond}
 use mathlib.Core.List.{List, ◌++◌}
-use mathlib.Core.Option.{Option, none, some}
+use Rattle.std.specs.Prelude.{Option, None, Some}
 use lib.IntN.{ℤ}
 use lib.ListN.{length, take, drop}
 use lib.Seq.{length-take-le, take_at}
@@ -110,8 +110,8 @@ parts_back e t x v l =
 
 by_opening : (w : World) (b : Option Body) → (step_by w b).opening ≡ w.opening
 unfolding step_by posted
-by_opening w none = refl
-by_opening w (some b) = refl
+by_opening w None = refl
+by_opening w (Some b) = refl
 
 pub step-opening : (w : World) (f : Fields) (room : ℕ) → (step w f room).opening ≡ w.opening
 unfolding step

@@ -3,15 +3,15 @@
 use Prim.Native.Nat.{ℕ, suc, ◌+◌, ◌-◌, ◌*◌, ◌≤◌, ◌<◌}
 use native.Mathlib.Omega.{arith}
 use mathlib.Core.Path.{◌≡◌, refl, sym, ap, ◌∙◌}
-use mathlib.Core.Bool.{Bool, true, false, not, ◌&&◌, cond}
+use mathlib.Core.Bool.{Bool, true, false, ◌&&◌}
 use mathlib.Core.Logic.{⊎_elim}
 use mathlib.Core.List.{List, [], ◌∷◌, ◌++◌, append_assoc, append-nil}
 use lib.ListN.{length, take, drop, length-drop}
 use lib.Seq.{drop-drop}
-use lib.Dec.{leb, ltb, eqb}
-use borrow.Author.Tests.{leb-true, ltb-true}
+use lib.Dec.{eqb}
+use Rattle.std.specs.Prelude.{Some, None}
 use Rattle.rules.specs.World.{Opening, World}
-use Rattle.rules.proofs.Tests.{cases, both}
+use Rattle.rules.proofs.Tests.{cases}
 use Rattle.file.specs.declared.fields.Phase.{Phase}
 use Rattle.file.specs.declared.fields.Found.{Found}
 use Rattle.file.specs.declared.fields.Found.TheVariants.{Month, Element, Message, End, More, Broken}
@@ -24,11 +24,9 @@ use Rattle.runner.specs.declared.Advanced.{Advanced}
 use Rattle.runner.specs.Stages.{Stage, start, elements, messages, over, phase_of, printed, Move, broken, opened_to, opening, move_on}
 use Rattle.runner.specs.Stages.{found_at, is_more}
 use Rattle.rules.specs.Lent.{Lists}
-use Rattle.runner.specs.Parts.{Sized}
-use Rattle.runner.specs.Texts.{longest_text, last_number}
-use Rattle.runner.specs.Holding.{Represents, Stands, Advances, can_go_on, Reached, longest_field, Stopped}
+use Rattle.runner.specs.Texts.{longest_text}
+use Rattle.runner.specs.Holding.{Represents, Stands, may_come, Advances, Stepped, can_go_on, Reached, longest_field, Stopped}
 use Rattle.runner.proofs.StageLaws.{never, move-from, next-inside, pieces}
-use Rattle.runner.proofs.ArmLaws.{wait_move}
 
 -- ---- where more bytes are needed, the input does not end with those in hand, and few are left
 
@@ -51,40 +49,13 @@ more_short bytes phase false m = ⊎_elim
     (sym m ∙ ap is_more (sym (g [])) ∙ whole_not_more (bytes ++ []) phase))
     (front_decides bytes phase)
 
--- ---- what the test of a turn says
-
-pub record CanGoOn (p : Progress) (waits : Bool) (left : ℕ) : Type 0 where
-  pub waits_not : waits ≡ false
-  pub over_not : p.over ≡ false
-  pub number : p.number < last_number
-  pub room : longest_text ≤ left
-
-not_true : (b : Bool) → not b ≡ true → b ≡ false
-not_true true h = never (sym h)
-not_true false h = refl
-
-pub can_go_on_lem : (p : Progress) (waits : Bool) (left : ℕ) → can_go_on p waits left ≡ true → CanGoOn p waits left
-unfolding can_go_on
-can_go_on_lem p waits left h =
-    let h1 = both (not waits) _ h in
-    let h2 = both (not p.over) _ h1.1 in
-    let h3 = both (ltb p.number last_number) (leb longest_text left) h2.1 in
-    record {
-      waits_not = not_true waits h1.0;
-      over_not = not_true p.over h2.0;
-      number = ltb-true _ _ h3.0;
-      room = leb-true _ _ h3.1;
-    }
-
 -- ---- how much is left to do
 
-rank : Phase → ℕ
-rank Phase.Start = 1
-rank Phase.Elements = 1
-rank Phase.Messages = 0
-
-pub weight : Bool → Progress → ℕ → ℕ
-weight waits p left = cond waits 0 (cond p.over 0 (suc (2 * left + rank p.phase)))
+pub weight : Progress → ℕ → ℕ
+weight Progress.Start left = suc (2 * left + 1)
+weight (Progress.Elements b) left = suc (2 * left + 1)
+weight (Progress.Messages b number) left = suc (2 * left + 0)
+weight Progress.Over left = 0
 
 weight_of : Stage → ℕ → ℕ
 weight_of start left = suc (2 * left + 1)
@@ -92,12 +63,19 @@ weight_of (elements h values) left = suc (2 * left + 1)
 weight_of (messages w n) left = suc (2 * left + 0)
 weight_of over left = 0
 
-holds_weight : (p : Progress) (t : Lists) (stage : Stage) (left : ℕ) → Represents p t stage → weight false p left ≡ weight_of stage left
-unfolding weight weight_of rank
-holds_weight p t start left h = rw (h.0, h.1)
-holds_weight p t (elements g values) left h = rw (h.0, h.1)
-holds_weight p t (messages w n) left h = rw (h.0, h.1)
-holds_weight p t over left h = rw h
+holds_weight : (p : Progress) (t : Lists) (stage : Stage) (left : ℕ) → Represents p t stage → weight p left ≡ weight_of stage left
+unfolding weight weight_of
+holds_weight Progress.Start t stage left h = rw h
+holds_weight (Progress.Elements b) t stage left h = rw h.is
+holds_weight (Progress.Messages b number) t stage left h = rw h.is
+holds_weight Progress.Over t stage left h = rw h
+
+some_weight : (p : Progress) (left : ℕ) → may_come p ≡ true → 0 < weight p left
+unfolding weight
+some_weight Progress.Start left h = omega arith
+some_weight (Progress.Elements b) left h = omega arith
+some_weight (Progress.Messages b number) left h = omega arith
+some_weight Progress.Over left h = never (sym h)
 
 opened_falls : (at end : ℕ) (w : World) (last : Bool) → weight_of (opened_to last w) (end - at) < suc (2 * (end - at) + 1)
 unfolding weight_of
@@ -135,158 +113,141 @@ falls at end over f s l m k = absurd (omega arith)
 
 -- ---- a turn
 
-holds_phase : (p : Progress) (t : Lists) (stage : Stage) → p.over ≡ false → Represents p t stage → p.phase ≡ phase_of stage
-unfolding phase_of
-holds_phase p t start o h = h.1
-holds_phase p t (elements g values) o h = h.1
-holds_phase p t (messages w n) o h = h.1
-holds_phase p t over o h = never (sym h ∙ o)
-
 -- the run so far
 pub record Running (ended : Bool) (s : List ℕ) (at : ℕ) (p₀ : Progress) (t₀ : Lists) (out₀ : List ℕ) (t : Lists) (out : List ℕ)
-    (p : Progress) (place written : ℕ) (waits : Bool) : Type 0 where
+    (p : Progress) (place written : ℕ) : Type 0 where
   pub inside : place ≤ length s
   pub long : length out ≡ length out₀
   pub text : written ≤ length out₀
   pub behind : drop written out ≡ drop written out₀
-  pub sized : Sized t
-  pub few : waits ≡ true → (ended ≡ false) × (length s - place < longest_field)
   pub reached : (stage : Stage) → Represents p₀ t₀ stage → Reached ended stage (drop at s) (take written out) p t (drop place s)
 
-pub begins : (ended : Bool) (s : List ℕ) (at : ℕ) (p : Progress) (t : Lists) (out : List ℕ) → at ≤ length s → Sized t
-    → Running ended s at p t out t out p at 0 false
-begins ended s at p t out l z =
+pub begins : (ended : Bool) (s : List ℕ) (at : ℕ) (p : Progress) (t : Lists) (out : List ℕ) → at ≤ length s
+    → Running ended s at p t out t out p at 0
+begins ended s at p t out l =
     record {
       inside = l;
       long = refl;
       text = omega arith;
       behind = refl;
-      sized = z;
-      few = λ w. never (sym w);
       reached = λ stage h. record { stage = stage; holds = h; same = λ rest e. refl };
     }
 
 module _ (ended : Bool) (s : List ℕ) (at : ℕ) (p₀ : Progress) (t₀ : Lists) (out₀ : List ℕ) (t : Lists) (out : List ℕ) (p : Progress)
-    (place written : ℕ) (waits : Bool)
-    (u : Running ended s at p₀ t₀ out₀ t out p place written waits) (b : Stands p₀ t₀)
+    (place written : ℕ)
+    (u : Running ended s at p₀ t₀ out₀ t out p place written)
   where
-    -- the numbers and the tables stand for a stage
-    pub stands : Stands p t
-    stands = let d = u.reached b.stage b.holds in record { stage = d.stage; holds = d.holds }
+    -- where it stops
+    pub ends : (waits : Bool) → can_go_on p waits (length out - written) ≡ false
+        → (waits ≡ true → (ended ≡ false) × (length s - place < longest_field))
+        → Stopped s ended out₀ out (record { progress = p; next = place; written = written; waits = waits })
+    ends waits g few =
+        record { place = u.inside; text = omega (arith, u.long, u.text); behind = u.behind; waits = few; stops = g }
 
-    abbrev found : Found
-    found = found_at s place p.phase ended
+    module _ (b : Stands p₀ t₀) where
+      -- the numbers and the tables stand for a stage
+      pub stands : Stands p t
+      stands = let d = u.reached b.stage b.holds in record { stage = d.stage; holds = d.holds }
 
-    module _ (g : CanGoOn p waits (length out - written)) (t' : Lists) (after : List ℕ) (a : Advanced)
-        (f : (stage : Stage) → Represents p t stage
-        → Advances (move_on place stage found s) a.progress t' out after a.next written a.written)
-        (m : a.more ≡ is_more found)
-      where
-        turn : Advances (move_on place stands.stage found s) a.progress t' out after a.next written a.written
-        turn = f stands.stage stands.holds
+      abbrev found : Stage → Found
+      found stage = found_at s place (phase_of stage) ended
 
-        next-within : a.next ≤ length s
-        next-within =
-            let i = field_in (drop place s) p.phase ended in
-            let z = ap (λ (x : Move). x.next) (move-from place stands.stage i s) in
-            let n = next-inside stands.stage i (drop place s) (inside_in (drop place s) p.phase ended) in
-            omega (arith, turn.place, z, rw length-drop at n, u.inside)
+      -- more bytes are needed
+      pub few-left : (t' : Lists) (after : List ℕ)
+          → ((stage : Stage) → Represents p t stage → Stepped stage s place ended None t t' out after written)
+          → (ended ≡ false) × (length s - place < longest_field)
+      few-left t' after f =
+          let q = more_short (drop place s) (phase_of stands.stage) ended (f stands.stage stands.holds).0 in
+          (q.0, omega (arith, rw length-drop at q.1))
 
-        next-few : a.more ≡ true → (ended ≡ false) × (length s - a.next < longest_field)
-        next-few k =
-            let z : is_more found ≡ true = sym m ∙ k in
-            let q = more_short (drop place s) p.phase ended z in
-            let n : a.next ≡ place = turn.place ∙ ap (λ (x : Move). x.next) (wait_move place stands.stage found s z) in
-            (q.0, rw n (omega (arith, rw length-drop at q.1)))
+      -- a field is taken
+      module _ (k : may_come p ≡ true) (room : longest_text ≤ length out - written) (t' : Lists) (after : List ℕ) (a : Advanced)
+          (f : (stage : Stage) → Represents p t stage → Stepped stage s place ended (Some a) t t' out after written)
+        where
+          turn : Advances (move_on place stands.stage (found stands.stage) s) a t' out after written
+          turn = (f stands.stage stands.holds).1
 
-        text-within : a.written ≤ length out₀
-        text-within = omega (arith, turn.text.end, turn.text.short, g.room, u.long, u.text)
+          next-within : a.next ≤ length s
+          next-within =
+              let i = found stands.stage in
+              let z = ap (λ (x : Move). x.next) (move-from place stands.stage i s) in
+              let n = next-inside stands.stage i (drop place s) (inside_in (drop place s) (phase_of stands.stage) ended) in
+              omega (arith, turn.place, z, rw length-drop at n, u.inside)
 
-        next-behind : drop a.written after ≡ drop a.written out₀
-        next-behind =
-            let v = turn.text in
-            let text = (move_on place stands.stage found s).text in
-            rw (
-              v.is,
-              placed-behind out written text a.written (omega (arith, u.long, u.text)) v.end,
-              v.end,
-              ← drop-drop (length text) written out,
-              u.behind,
-              drop-drop,
-            )
+          text-within : a.written ≤ length out₀
+          text-within = omega (arith, turn.text.end, turn.text.short, room, u.long, u.text)
 
-        next-reached : (stage : Stage) → Represents p₀ t₀ stage
-            → Reached ended stage (drop at s) (take a.written after) a.progress t' (drop a.next s)
-        next-reached stage h =
-            let d = u.reached stage h in
-            let v = f d.stage d.holds in
-            let e : p.phase ≡ phase_of d.stage = holds_phase p t d.stage g.over_not d.holds in
-            let move = move_on place d.stage found s in
-            let text : take a.written after ≡ take written out ++ move.text =
-            rw v.text.is (placed-front out written move.text a.written (omega (arith, u.long, u.text)) v.text.end) in
-            record {
-              stage = move.stage;
-              holds = v.holds;
-              same = λ rest r. d.same rest r ∙ ap (λ (x : List ℕ). take written out ++ x)
-                  (pieces d.stage s rest place ended r move (ap (λ x. move_on place d.stage (found_at s place x ended) s) e))
-                  ∙ rw (v.place, text) (sym (append_assoc (take written out) move.text _));
-            }
+          next-behind : drop a.written after ≡ drop a.written out₀
+          next-behind =
+              let v = turn.text in
+              let text = (move_on place stands.stage (found stands.stage) s).text in
+              rw (
+                v.is,
+                placed-behind out written text a.written (omega (arith, u.long, u.text)) v.end,
+                v.end,
+                ← drop-drop (length text) written out,
+                u.behind,
+                drop-drop,
+              )
 
-        pub turns : Sized t' → length after ≡ length out
-            → Running ended s at p₀ t₀ out₀ t' after a.progress a.next a.written a.more
-        turns z l = record {
-          inside = next-within;
-          long = l ∙ u.long;
-          text = text-within;
-          behind = next-behind;
-          sized = z;
-          few = next-few;
-          reached = next-reached;
-        }
+          next-reached : (stage : Stage) → Represents p₀ t₀ stage
+              → Reached ended stage (drop at s) (take a.written after) a.progress t' (drop a.next s)
+          next-reached stage h =
+              let d = u.reached stage h in
+              let v = (f d.stage d.holds).1 in
+              let move = move_on place d.stage (found d.stage) s in
+              let text : take a.written after ≡ take written out ++ move.text =
+              rw v.text.is (placed-front out written move.text a.written (omega (arith, u.long, u.text)) v.text.end) in
+              record {
+                stage = move.stage;
+                holds = v.holds;
+                same = λ rest r. d.same rest r ∙ ap (λ (x : List ℕ). take written out ++ x) (pieces d.stage s rest place ended r move refl)
+                    ∙ rw (v.place, text) (sym (append_assoc (take written out) move.text _));
+              }
 
-        pub less : weight a.more a.progress (length s - a.next) < weight waits p (length s - place)
-        unfolding weight
-        less = cases (is_more found)
-            (λ k. rw (m, k, g.waits_not, g.over_not) (omega arith))
-            (λ k.
-            let i = inside-at s place p.phase ended u.inside in
-            let w : weight false p (length s - place) ≡ weight_of stands.stage (length s - place) =
-            holds_weight p t stands.stage (length s - place) stands.holds in
-            let w' = holds_weight a.progress t' (move_on place stands.stage found s).stage
-            (length s - (move_on place stands.stage found s).next) turn.holds in
-            let pos : 0 < weight false p (length s - place) = rw g.over_not (omega arith) in
-            rw (m, k, g.waits_not, turn.place) (omega (arith, w, w', falls place (length s) stands.stage found s i k (rw w at pos))))
+          pub turns : length after ≡ length out
+              → Running ended s at p₀ t₀ out₀ t' after a.progress a.next a.written
+          turns l = record {
+            inside = next-within;
+            long = l ∙ u.long;
+            text = text-within;
+            behind = next-behind;
+            reached = next-reached;
+          }
 
--- ---- the end
-
-pub ends : (ended : Bool) (s : List ℕ) (at : ℕ) (p₀ : Progress) (t₀ : Lists) (out₀ : List ℕ) (t : Lists) (out : List ℕ) (p : Progress)
-    (place written : ℕ) (waits : Bool)
-    → Running ended s at p₀ t₀ out₀ t out p place written waits → can_go_on p waits (length out - written) ≡ false
-    → Stopped s ended out₀ out (record { progress = p; next = place; written = written; waits = waits })
-ends ended s at p₀ t₀ out₀ t out p place written waits u g =
-    record { place = u.inside; text = omega (arith, u.long, u.text); behind = u.behind; waits = u.few; stops = g }
+          pub less : weight a.progress (length s - a.next) < weight p (length s - place)
+          less =
+              let i = inside-at s place (phase_of stands.stage) ended u.inside in
+              let w : weight p (length s - place) ≡ weight_of stands.stage (length s - place) =
+              holds_weight p t stands.stage (length s - place) stands.holds in
+              let w' = holds_weight a.progress t' (move_on place stands.stage (found stands.stage) s).stage
+              (length s - (move_on place stands.stage (found stands.stage) s).next) turn.holds in
+              let pos : 0 < weight p (length s - place) = some_weight p (length s - place) k in
+              rw turn.place (omega (
+                arith,
+                w,
+                w',
+                falls place (length s) stands.stage (found stands.stage) s i
+                    (f stands.stage stands.holds).0 (rw w at pos),
+              ))
 
 -- ---- for callers
 
-over_silent : (p : Progress) (t : Lists) (stage : Stage) (bytes : List ℕ) → Represents p t stage → p.over ≡ true → printed stage bytes ≡ []
+over_silent : (t : Lists) (stage : Stage) (bytes : List ℕ) → Represents Progress.Over t stage → printed stage bytes ≡ []
 unfolding printed
-over_silent p t start bytes h o = never (sym o ∙ h.0)
-over_silent p t (elements g values) bytes h o = never (sym o ∙ h.0)
-over_silent p t (messages w n) bytes h o = never (sym o ∙ h.0)
-over_silent p t over bytes h o = refl
+over_silent t stage bytes h = rw h
 
 -- a run that is over has printed all
-pub run-over : (ended : Bool) (stage : Stage) (front text : List ℕ) (p : Progress) (t : Lists) (left : List ℕ)
-    → Reached ended stage front text p t left → p.over ≡ true
+pub run-over : (ended : Bool) (stage : Stage) (front text : List ℕ) (t : Lists) (left : List ℕ)
+    → Reached ended stage front text Progress.Over t left
     → (rest : List ℕ) → (ended ≡ true → rest ≡ []) → printed stage (front ++ rest) ≡ text
-run-over ended stage front text p t left r o rest e = r.same rest e
-    ∙ rw (over_silent p t r.stage (left ++ rest) r.holds o) (append-nil text)
+run-over ended stage front text t left r rest e = r.same rest e
+    ∙ rw (over_silent t r.stage (left ++ rest) r.holds) (append-nil text)
 
 -- the whole input from the beginning, over in one call: the text is the program's
-pub whole_run : (s text : List ℕ) (p : Progress) (t : Lists) (left : List ℕ) → Reached true start s text p t left → p.over ≡ true
-    → text ≡ settled s
+pub whole_run : (s text : List ℕ) (t : Lists) (left : List ℕ) → Reached true start s text Progress.Over t left → text ≡ settled s
 unfolding printed
-whole_run s text p t left r o = sym (run-over true start s text p t left r o [] (λ e. refl)) ∙ ap settled (append-nil s)
+whole_run s text t left r = sym (run-over true start s text t left r [] (λ e. refl)) ∙ ap settled (append-nil s)
 
 -- a run that goes on over the bytes that were left, with more behind them; with none where the input had ended and the output was full
 pub runs_joined : (first ended : Bool) (stage : Stage) (front more text text' : List ℕ) (p p' : Progress) (t t' : Lists)

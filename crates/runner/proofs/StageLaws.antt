@@ -60,7 +60,7 @@ module _ (bytes : List ℕ) where
       → field_of bytes (phase_of stage) ≡ found
       → printed stage bytes ≡ (move_on 0 stage found bytes).text ++ printed (move_on 0 stage found bytes).stage
       (drop (move_on 0 stage found bytes).next bytes)
-  unfolding phase_of printed move_on broken is_more field_size settled on_month elements_from on_element messages_from on_message
+  unfolding printed move_on broken is_more field_size settled on_month elements_from on_element messages_from on_message
   onward start (Month year month points suppliers) m l e = rw e (elements-behind bytes 9 _ [] (omega arith) (omega (arith, l.0)))
   onward start (Element size) m l e = rw e (behind (ended_by 1))
   onward start (Message f) m l e = rw e (behind (ended_by 1))

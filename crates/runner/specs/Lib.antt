@@ -2,5 +2,4 @@
 pub mod Stages
 pub mod Parts
 pub mod Texts
-pub mod Tasks
 pub mod Holding

@@ -3,14 +3,16 @@ use Rattle.std.specs.Prelude.{ℕ, ◌*◌, ◌≤◌, ◌≡◌, length, take}
 use Rattle.calendar.specs.Gregorian.{days_of_month, longest_month, InRange}
 use Rattle.rules.specs.declared.Book.{Book}
 use Rattle.rules.specs.Basics.{all_to}
-use Rattle.rules.specs.Sizes.{element_size, hour_places, line_size, most_elements, most_lines, most_suppliers, places, price_places}
+use Rattle.rules.specs.Sizes.{element_size, hour_places, line_size, most_elements}
+use Rattle.rules.specs.Sizes.{most_lines, most_suppliers, places, price_places, record_size}
 use Rattle.rules.specs.World.{Opening, World}
 use Rattle.rules.specs.WellFormed.{element_right}
 use Rattle.rules.specs.Effects.{ask}
-use Rattle.rules.specs.Lent.{Lists, world_in}
+use Rattle.rules.specs.Lent.{Lists, world_in, given}
 use Rattle.recording.specs.Opened.{fresh_book}
-use Rattle.file.specs.Program.{settle_points}
+use Rattle.file.specs.Program.{settle_points, settle_records}
 use Rattle.runner.specs.declared.parts.Ends.{Ends}
+use Rattle.runner.specs.declared.parts.Store.{Store}
 
 -- 64 elements, 16 suppliers, and 16 points of 31 days of 24 hours
 pub record Sized (t : Lists) : Type 0 where
@@ -23,6 +25,29 @@ pub record Sized (t : Lists) : Type 0 where
   pub blocks : length t.blocks ≡ settle_points
   pub lines : length t.lines ≡ most_lines * line_size
   pub sent : length t.sent ≡ most_lines * line_size
+
+-- the tables of the program, as they are
+abbrev pub lists_in : Store → Lists
+lists_in s =
+    given s.element_data.now s.prices.now s.links.now s.holders.now s.states.now s.readings.now s.blocks.now s.lines.now s.sent.now
+
+-- with room for the records of a round
+pub record Stocked (s : Store) : Type 0 where
+  pub tables : Sized (lists_in s)
+  pub records : length s.records.now ≡ settle_records * record_size
+
+-- they stay the same slices: their content alone changes
+pub record SameSlices (s t : Store) : Type 0 where
+  pub element_data : t.element_data.ghost_name ≡ s.element_data.ghost_name
+  pub prices : t.prices.ghost_name ≡ s.prices.ghost_name
+  pub links : t.links.ghost_name ≡ s.links.ghost_name
+  pub holders : t.holders.ghost_name ≡ s.holders.ghost_name
+  pub states : t.states.ghost_name ≡ s.states.ghost_name
+  pub readings : t.readings.ghost_name ≡ s.readings.ghost_name
+  pub blocks : t.blocks.ghost_name ≡ s.blocks.ghost_name
+  pub lines : t.lines.ghost_name ≡ s.lines.ghost_name
+  pub sent : t.sent.ghost_name ≡ s.sent.ghost_name
+  pub records : t.records.ghost_name ≡ s.records.ghost_name
 
 -- a month of the calendar, and counts that the tables have room for
 pub record Fitted (b : Book) : Type 0 where

@@ -19,7 +19,7 @@ pub data Stage : Type 0 where
   over : Stage
 
 -- the fields that may come next
-unfoldable pub phase_of : Stage → Phase
+abbrev pub phase_of : Stage → Phase
 phase_of start = Phase.Start
 phase_of (elements h values) = Phase.Elements
 phase_of (messages w number) = Phase.Messages
@@ -99,12 +99,3 @@ is_more (Message f) = false
 is_more End = false
 is_more More = true
 is_more Broken = false
-
--- the end of the input
-unfoldable pub is_end : Found → Bool
-is_end (Month year month points suppliers) = false
-is_end (Element size) = false
-is_end (Message f) = false
-is_end End = true
-is_end More = false
-is_end Broken = false

@@ -1,135 +1,67 @@
-// One field that opens no book and is no message of one, by what may come next; and which of the three it is.
-ghost use Rattle.std.specs.Prelude.{◌≡◌, true, false, List, [], ◌∷◌, ◌++◌, ℕ, ◌+◌, ◌*◌, ◌≤◌, length, take, drop};
-ghost use Rattle.rules.specs.Sizes.{most_elements, element_size, price_places};
-ghost use Rattle.rules.specs.Lent.{Lists, lend_elements};
-ghost use Rattle.rules.specs.World.{World};
-ghost use Rattle.file.specs.Field.{field_size, Inside};
+// One field, by what may come next: the month, an element or what opens the book, or a message of the open book.
+ghost use Rattle.std.specs.Prelude.{◌≡◌, List, [], ◌∷◌, ◌++◌, ℕ, ◌+◌, ◌*◌, ◌≤◌, ◌<◌, length, take, drop};
+ghost use Rattle.rules.specs.Sizes.{most_elements, element_size, price_places, record_size};
+ghost use Rattle.rules.specs.Answers.{refusal_number};
+ghost use Rattle.rules.specs.Lent.{Lists, given};
 ghost use Rattle.file.specs.Lines.{longest_line};
-ghost use Rattle.file.specs.Program.{Heading};
-ghost use Rattle.runner.specs.Stages.{Stage, start, elements, messages, broken, move_on, is_more, is_end};
-ghost use Rattle.runner.specs.Texts.{waits_at};
-ghost use Rattle.runner.specs.Tasks.{task_of, opening_task, message_task, is_other};
-ghost use Rattle.runner.specs.Holding.{HoldsValues, Represents, Advances, counted};
+ghost use Rattle.file.specs.Program.{Heading, collected, settle_records};
+ghost use Rattle.runner.specs.Stages.{start, elements, messages, broken, opening, opened_to};
+ghost use Rattle.runner.specs.Parts.{lists_in, Stocked, SameSlices, fronts_world};
+ghost use Rattle.runner.specs.Texts.{longest_text, last_number};
+ghost use Rattle.runner.specs.Holding.{HoldsValues, HoldsBook, Advances, Stepped};
 
-use crate::{Advanced, Progress, moved};
+use crate::parts::{Store, ask_opening, clear_parts, tell};
+use crate::texts::put_reply;
+use crate::{Advanced, Progress};
+use facts::{month_days, month_first};
 use file::fields::{Found, HEADER_SIZE, Phase, read_element};
-use file::output::put_refused;
-use recording::opening::named_book;
-use rules::{Book, Fields, MOST_ELEMENTS};
+use file::output::{put_book, put_refused};
+use file::reader::{Located, read};
+use recording::opening::{fresh_book, named_book};
+use rules::{Book, MOST_ELEMENTS, Refusal};
 
-// ---- what a field asks to be done
-
-#[derive(Clone, Copy)]
-pub enum Task {
-    // the book opens; is the input at its end
-    Open { last: bool },
-    // a message of an open book
-    Take { fields: Fields },
-    // anything else
-    Other,
-}
-
-// "The book opens .. at the first whole message field or the end."
-fn opening_task(found: Found) -> Task
-    ensures { result ≡ opening_task found }
-{
-    match found {
-        Found::Message { .. } => Task::Open { last: false },
-        Found::End => Task::Open { last: true },
-        _ => Task::Other,
-    }
-}
-
-fn message_task(found: Found) -> Task
-    ensures { result ≡ message_task found }
-{
-    if let Found::Message { fields } = found {
-        Task::Take { fields }
-    } else {
-        Task::Other
-    }
-}
-
-pub fn task_of(phase: Phase, found: Found) -> Task
-    ensures { result ≡ task_of phase found }
-{
-    match phase {
-        Phase::Start => Task::Other,
-        Phase::Elements => opening_task(found),
-        Phase::Messages => message_task(found),
-    }
-}
-
-// ---- any other field
-
-fn is_more(found: Found) -> bool
-    ensures { result ≡ is_more found }
-{
-    if let Found::More = found { true } else { false }
-}
-
-fn is_end(found: Found) -> bool
-    ensures { result ≡ is_end found }
-{
-    if let Found::End = found { true } else { false }
-}
-
-// The run ends with question 1.
-fn refuse(book: Book, at: usize, out: &mut [u8], from: usize) -> Advanced
+// The run ends with a question of the opening, or with question 1.
+fn refuse(refusal: Refusal, at: usize, out: &mut [u8], from: usize) -> Advanced
     requires { from + longest_line ≤ length out.old }
-    ensures advances { (t : Lists) → Advances (broken at 1) result.progress t out.old out.new result.next from result.written }
-    ensures done { result.more ≡ false }
+    ensures { (t : Lists) → Advances (broken at (refusal_number refusal)) result t out.old out.new from }
 {
-    let written = put_refused(out, from, 0, 1);
-    moved(Phase::Messages, true, book, 1, at, written)
+    let written = put_refused(out, from, 0, refusal.number());
+    Advanced {
+        progress: Progress::Over,
+        next: at,
+        written,
+    }
 }
 
-fn on_start(
-    book: Book,
-    found: Found,
-    at: usize,
-    place: usize,
-    out: &mut [u8],
-    from: usize,
-) -> Advanced
-    requires { (from + longest_line ≤ length out.old) × (is_more found ≡ false) × (place ≡ at + field_size found) }
-    ensures advances { (t : Lists) (bytes : List ℕ) →
-        Advances (move_on at start found bytes) result.progress t out.old out.new result.next from result.written }
-    ensures done { result.more ≡ false }
+// ---- before tag 1
+
+// The month, or a field that is not in its place.
+pub fn take_month(s: &[u8], at: usize, ended: bool, out: &mut [u8], from: usize) -> Option<Advanced>
+    requires { (at ≤ length s.now) × (from + longest_line ≤ length out.old) }
+    ensures { (t : Lists) → Stepped start s.now at ended result t t out.old out.new from }
 {
-    let Found::Month {
-        year,
-        month,
-        points,
-        suppliers,
-    } = found
-    else {
-        return refuse(book, at, out, from);
-    };
-    moved(
-        Phase::Elements,
-        false,
-        named_book(year, month, points, suppliers, 0),
-        1,
-        place,
-        from,
-    )
+    let Located { found, place } = read(s, at, Phase::Start, ended);
+    match found {
+        Found::More => None,
+        Found::Month {
+            year,
+            month,
+            points,
+            suppliers,
+        } => Some(Advanced {
+            progress: Progress::Elements {
+                book: named_book(year, month, points, suppliers, 0),
+            },
+            next: place,
+            written: from,
+        }),
+        _ => Some(refuse(Refusal::BrokenField, at, out, from)),
+    }
 }
 
-// One element field more, up to 65.
-fn count_on(book: Book) -> Book
-    ensures { result ≡ counted book }
-{
-    let mut next = book;
-    next.elements = if book.elements < MOST_ELEMENTS {
-        book.elements + 1
-    } else {
-        MOST_ELEMENTS + 1
-    };
-    next
-}
+// ---- before the opening
 
-// An element's value goes into the tables, where there is room for it.
+// An element's value goes into the tables, where there is room for it; one element field more, up to 65.
 fn take_element(
     book: Book,
     s: &[u8],
@@ -145,96 +77,165 @@ fn take_element(
         → HoldsValues result element_data.new prices.new h (values ++ (take size (drop start s.now) ∷ [])) }
 {
     if book.elements < MOST_ELEMENTS {
-        let e = book.elements as usize;
-        read_element(s, start, size, element_data, prices, e);
-        count_on(book)
-    } else {
-        count_on(book)
+        read_element(s, start, size, element_data, prices, book.elements as usize);
+    }
+    Book {
+        elements: book.elements.min(MOST_ELEMENTS) + 1,
+        ..book
     }
 }
 
-// An element, or a field that is not in its place.
-fn gather(
+// The book opens, printing its line, or the run is over with the question that says no; it is over too where the input ends here, which
+// `last` says: nothing hangs on it but that.
+fn open_book(
     book: Book,
-    found: Found,
-    s: &[u8],
+    last: bool,
     at: usize,
-    place: usize,
-    element_data: &mut [u8],
-    prices: &mut [i64],
+    store: &mut Store,
     out: &mut [u8],
     from: usize,
 ) -> Advanced
-    requires element_data_len { (length element_data.old ≡ most_elements * element_size)
-        × (length prices.old ≡ most_elements * price_places) }
-    requires inside { Inside at (length s.now) found × (is_more found ≡ false) × (is_other (opening_task found) ≡ true) }
-    requires longest_line_in_bounds { (from + longest_line ≤ length out.old) × (place ≡ at + field_size found) }
-    ensures advances { (h : Heading) (values : List (List ℕ)) (o : Lists) →
-        HoldsValues book element_data.old prices.old h values
-        → Advances (move_on at (elements h values) found s.now) result.progress (lend_elements element_data.new prices.new o)
-        out.old out.new result.next from result.written }
-    ensures done { result.more ≡ false }
+    requires sized { Stocked store.old }
+    requires longest_line_in_bounds { from + longest_line ≤ length out.old }
+    ensures same { SameSlices store.old store.new }
+    ensures sized { Stocked store.new }
+    ensures advances { (h : Heading) (values : List (List ℕ)) → HoldsValues book store.old.element_data.now store.old.prices.now h values
+        → Advances (opening at (collected h values) (opened_to last)) result (lists_in store.new) out.old out.new from }
 {
-    let Found::Element { length } = found else {
-        return refuse(book, at, out, from);
-    };
-    let after = take_element(book, s, at + HEADER_SIZE, length, element_data, prices);
-    moved(Phase::Elements, false, after, 1, place, from)
-}
-
-// The end, or a field that is not in its place.
-fn finish(book: Book, found: Found, at: usize, out: &mut [u8], from: usize) -> Advanced
-    requires { (from + longest_line ≤ length out.old) × (is_more found ≡ false) × (is_other (message_task found) ≡ true) }
-    ensures advances { (t : Lists) (w : World) (n : ℕ) (bytes : List ℕ) →
-        Advances (move_on at (messages w n) found bytes) result.progress t out.old out.new result.next from result.written }
-    ensures done { result.more ≡ false }
-{
-    if is_end(found) {
-        moved(Phase::Messages, true, book, 1, at, from)
-    } else {
-        refuse(book, at, out, from)
+    let element_data = &mut *store.element_data;
+    let prices = &mut *store.prices;
+    if let Err(refusal) = ask_opening(book, element_data, prices) {
+        return refuse(refusal, at, out, from);
     }
-}
-
-fn waiting(progress: Progress, at: usize, from: usize) -> Advanced
-    ensures { result ≡ waits_at progress at from }
-{
+    let fresh = fresh_book(book);
+    clear_parts(
+        fresh,
+        element_data,
+        prices,
+        store.links,
+        store.holders,
+        store.states,
+        store.readings,
+        store.blocks,
+        store.lines,
+        store.sent,
+    );
+    let days = month_days(fresh);
+    let first = month_first(fresh);
+    let written = put_book(out, from, fresh.year, fresh.month, days, first);
+    let progress = if last {
+        Progress::Over
+    } else {
+        Progress::Messages {
+            book: fresh,
+            number: 1,
+        }
+    };
     Advanced {
         progress,
         next: at,
-        written: from,
-        more: true,
+        written,
     }
 }
 
-pub fn take_field(
-    progress: Progress,
-    found: Found,
+// An element, or what opens the book: "The book opens .. at the first whole message field or the end." Or a field that is not in its place.
+pub fn gather(
+    book: Book,
     s: &[u8],
     at: usize,
-    place: usize,
-    element_data: &mut [u8],
-    prices: &mut [i64],
+    ended: bool,
+    store: &mut Store,
     out: &mut [u8],
     from: usize,
-) -> Advanced
-    requires element_data_len { (length element_data.old ≡ most_elements * element_size)
-        × (length prices.old ≡ most_elements * price_places) }
-    requires inside { Inside at (length s.now) found × (is_other (task_of progress.phase found) ≡ true) }
-    requires longest_line_in_bounds { (from + longest_line ≤ length out.old) × (progress.over ≡ false) × (place ≡ at + field_size found) }
-    ensures advances { (o : Lists) (stage : Stage) → Represents progress (lend_elements element_data.old prices.old o) stage
-        → Advances (move_on at stage found s.now) result.progress (lend_elements element_data.new prices.new o)
-        out.old out.new result.next from result.written }
-    ensures done { result.more ≡ is_more found }
+) -> Option<Advanced>
+    requires sized { Stocked store.old }
+    requires bounds { (at ≤ length s.now) × (from + longest_line ≤ length out.old) }
+    ensures same { SameSlices store.old store.new }
+    ensures sized { Stocked store.new }
+    ensures steps { (h : Heading) (values : List (List ℕ)) → HoldsValues book store.old.element_data.now store.old.prices.now h values
+        → Stepped (elements h values) s.now at ended result (lists_in store.old) (lists_in store.new) out.old out.new from }
 {
-    if is_more(found) {
-        return waiting(progress, at, from);
+    let Located { found, place } = read(s, at, Phase::Elements, ended);
+    match found {
+        Found::More => None,
+        Found::Element { length } => {
+            let book = take_element(
+                book,
+                s,
+                at + HEADER_SIZE,
+                length,
+                store.element_data,
+                store.prices,
+            );
+            Some(Advanced {
+                progress: Progress::Elements { book },
+                next: place,
+                written: from,
+            })
+        }
+        Found::Message { .. } => Some(open_book(book, false, at, store, out, from)),
+        Found::End => Some(open_book(book, true, at, store, out, from)),
+        _ => Some(refuse(Refusal::BrokenField, at, out, from)),
     }
-    let book = progress.book;
-    let phase = progress.phase;
-    match phase {
-        Phase::Start => on_start(book, found, at, place, out, from),
-        Phase::Elements => gather(book, found, s, at, place, element_data, prices, out, from),
-        Phase::Messages => finish(book, found, at, out, from),
+}
+
+// ---- behind the opening
+
+// A message of the open book, whose records or refusal are printed; the end; or a field that is not in its place.
+pub fn take_message(
+    book: Book,
+    number: u64,
+    s: &[u8],
+    at: usize,
+    ended: bool,
+    store: &mut Store,
+    out: &mut [u8],
+    from: usize,
+) -> Option<Advanced>
+    requires sized { Stocked store.old }
+    requires open { HoldsBook book (lists_in store.old) }
+    requires bounds { (at ≤ length s.now) × (number < last_number) }
+    requires room { from + longest_text ≤ length out.old }
+    ensures same { SameSlices store.old store.new }
+    ensures sized { Stocked store.new }
+    ensures steps { let t = lists_in store.old in
+        Stepped (messages (fronts_world book t) number) s.now at ended result t (lists_in store.new) out.old out.new from }
+{
+    let Located { found, place } = read(s, at, Phase::Messages, ended);
+    match found {
+        Found::More => None,
+        Found::Message { fields } => {
+            let element_data = &mut *store.element_data;
+            let prices = &mut *store.prices;
+            let (book, reply) = tell(
+                book,
+                element_data,
+                prices,
+                store.links,
+                store.holders,
+                store.states,
+                store.readings,
+                store.blocks,
+                store.lines,
+                store.sent,
+                store.records,
+                fields,
+            );
+            let written = put_reply(reply, number, store.records, out, from);
+            Some(Advanced {
+                progress: Progress::Messages {
+                    book,
+                    number: number + 1,
+                },
+                next: place,
+                written,
+            })
+        }
+        Found::End => Some(Advanced {
+            progress: Progress::Over,
+            next: at,
+            written: from,
+        }),
+        _ => Some(refuse(Refusal::BrokenField, at, out, from)),
     }
 }

@@ -1,4 +1,3 @@
--- Laws of what a read has answered, of bytes that come to the front of a buffer, and of a turn.
-pub mod Answers
+-- Laws of bytes that come to the front of a buffer, and of a turn.
 pub mod Pieces
 pub mod Turning

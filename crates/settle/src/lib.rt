@@ -1,25 +1,58 @@
 // `settle` reads a month's file from standard input and prints the book's line, its records and its refusals. The input comes in pieces
 // through one buffer. What happens between a read and a write is one function, `turn`; `run_session` reads, makes a turn and writes until
-// the run is over, and answers the program's status.
+// the run is over.
 #![tactic(auto)]
 
-ghost use Rattle.std.specs.Prelude.{◌≡◌, ℕ, List, ◌-◌, ◌*◌, ◌≤◌, ◌<◌, length, take, drop};
+ghost use Rattle.std.specs.Prelude.{◌≡◌, ⊤, ℕ, List, ◌-◌, ◌+◌, ◌*◌, ◌≤◌, ◌<◌, length, take, Some, Result, MatchResult, OnOk};
+ghost use Rattle.std.specs.Io.KnownBytes.{Appends, Keeps};
 ghost use Rattle.calendar.specs.Gregorian.{longest_month};
 ghost use Rattle.rules.specs.Sizes.{hour_places, record_size};
-ghost use Rattle.rules.specs.Lent.{Lists, given};
-ghost use Rattle.file.specs.Program.{settle_records, settle_points};
-ghost use Rattle.runner.specs.Parts.{Sized};
-ghost use Rattle.runner.specs.Texts.{last_number, longest_text};
-ghost use Rattle.settle.specs.Sessions.{arrived, ended_by, failed_by, buffer_size, Lent, Turns};
-ghost use Rattle.settle.specs.Sessions.{Begun, with_output, goes_on, status_of, Ended};
+ghost use Rattle.rules.specs.Lent.{Lists};
+ghost use Rattle.file.specs.Program.{settle_records, settle_points, settled};
+ghost use Rattle.runner.specs.Parts.{lists_in, Stocked, SameSlices};
+ghost use Rattle.runner.specs.Texts.{longest_text, last_number};
+ghost use Rattle.settle.specs.Sessions.{is_last, next_after, Arrived, buffer_size, Lent};
+ghost use Rattle.settle.specs.Sessions.{Turns, Begun, status_of, failure_status, Ended, Carried};
 
 use rules::{PLACES, RECORD_NUMBERS};
 use runner::parts::{
-    BLOCK_PLACES, DATA_PLACES, LINE_TABLE_PLACES, PRICE_TABLE_PLACES, READING_PLACES,
+    BLOCK_PLACES, DATA_PLACES, LINE_TABLE_PLACES, PRICE_TABLE_PLACES, READING_PLACES, Store,
 };
 use runner::{LONGEST_TEXT, Progress, begin, run};
 use std::io::{Input as ReadsInput, Read, Write, writer};
 use streams::{read_some, write_whole};
+
+// What the next turn begins with.
+#[derive(Clone, Copy)]
+pub enum Next {
+    // a read: more bytes are needed
+    Read,
+    // the bytes in hand
+    Held,
+    // the bytes in hand, with which the input ends
+    Last,
+}
+
+impl Next {
+    fn is_last(self) -> bool
+        ensures { result ≡ is_last self }
+    {
+        matches!(self, Next::Last)
+    }
+
+    // What the turn after this one begins with.
+    fn after(self, waits: bool) -> Next
+        ensures { result ≡ next_after self waits }
+    {
+        if waits {
+            return Next::Read;
+        }
+        match self {
+            Next::Last => Next::Last,
+            _ => Next::Held,
+        }
+    }
+}
 
 // How far a session has come between two turns.
 #[derive(Clone, Copy)]
@@ -27,22 +60,7 @@ pub struct Session {
     pub progress: Progress,
     // how many bytes at the front of the buffer are still to be taken
     pub held: usize,
-    // more bytes are needed: the next turn begins with a read
-    pub waits: bool,
-    // the input has ended
-    pub ended: bool,
-    // the input could not be read
-    pub failed: bool,
-    // the output could not be written
-    pub unwritten: bool,
-    // how many turns were made: a proved loop has to end, and nothing says that the input does
-    pub turns: u64,
-}
-
-// What a read has answered: how many bytes have come, 0 at the end of the input, less where it failed.
-#[derive(Clone, Copy)]
-pub struct Input {
-    pub answer: isize,
+    pub next: Next,
 }
 
 // What a turn leaves: the session, and how many bytes of the output are to be written.
@@ -52,122 +70,55 @@ pub struct Turned {
     pub written: usize,
 }
 
-// What was handed over for writing: how many bytes from the front of the output, and whether all of them were written.
+// Why a session has ended before its run was over.
 #[derive(Clone, Copy)]
-pub struct Output {
-    pub count: usize,
-    pub done: bool,
+pub enum Failure {
+    // the output could not be written
+    Unwritten,
+    // the input could not be read
+    Unread,
+    // as many turns were made as a number of 64 bits counts: a proved loop has to end, and nothing says that the input does
+    Unfinished,
 }
 
-// ---- what a read has answered
-
-// How many bytes have come behind those in hand.
-fn bytes_arrived(session: Session, input: Input, buffer: &[u8]) -> usize
-    requires { session.held ≤ length buffer.now }
-    ensures { result ≡ arrived session input.answer (length buffer.now) }
-{
-    if session.waits {
-        let held = session.held;
-        let free = &buffer[held..];
-        return io::count(input.answer, free);
+impl Failure {
+    fn status(self) -> u8
+        ensures { result ≡ failure_status self }
+    {
+        match self {
+            Failure::Unwritten => 1,
+            Failure::Unread => 2,
+            Failure::Unfinished => 3,
+        }
     }
-    0
-}
-
-fn has_ended(session: Session, input: Input) -> bool
-    ensures { result ≡ ended_by session input.answer }
-{
-    if session.waits {
-        return input.answer == 0;
-    }
-    session.ended
-}
-
-fn has_failed(session: Session, input: Input) -> bool
-    ensures { result ≡ failed_by session input.answer }
-{
-    if session.waits {
-        return input.answer < 0;
-    }
-    false
 }
 
 // ---- a turn
 
-// The bytes from `at` up to `have` come to the front of the buffer; how many there are.
-fn keep_rest(buffer: &mut [u8], at: usize, have: usize) -> usize
-    requires { (at ≤ have) × (have ≤ length buffer.old) }
-    ensures { (result ≡ have - at) × (take result buffer.new ≡ take (have - at) (drop at buffer.old)) }
+// All that happens between a read and a write: the bytes in hand are run, what is printed for them stands at the front of the output, and
+// the bytes that are still to be taken come to the front of the buffer.
+pub fn turn(session: Session, buffer: &mut [u8], store: &mut Store, out: &mut [u8]) -> Turned
+    requires lent { Lent session store.old buffer.old }
+    requires room { longest_text ≤ length out.old }
+    ensures same { SameSlices store.old store.new }
+    ensures stocked { Stocked store.new }
+    ensures turns { Turns session (lists_in store.old) buffer.old result (lists_in store.new) buffer.new out.new }
 {
-    let rest = have - at;
-    let mut i = 0;
-    while i < rest {
-        buffer[i] = buffer[at + i];
-        i += 1;
-    }
-    rest
-}
-
-// All that happens between a read and a write: the bytes in hand and those that have come are run, what is printed for them stands at the
-// front of the output, and the bytes that are still to be taken come to the front of the buffer. `input` is what the read has answered, and
-// means nothing where the session does not wait.
-pub fn turn(
-    session: Session,
-    input: Input,
-    buffer: &mut [u8],
-    element_data: &mut [u8],
-    prices: &mut [i64],
-    links: &mut [u64],
-    holders: &mut [u64],
-    states: &mut [u64],
-    readings: &mut [u32],
-    blocks: &mut [u8],
-    lines: &mut [i64],
-    sent: &mut [i64],
-    records: &mut [i64],
-    out: &mut [u8],
-) -> Turned
-    requires lent { Lent session
-        (given element_data.old prices.old links.old holders.old states.old readings.old blocks.old lines.old sent.old)
-        buffer.old records.old }
-    requires turns_lt_last_number { (session.turns < last_number) × (longest_text ≤ length out.old) }
-    ensures { let before = given element_data.old prices.old links.old holders.old states.old readings.old blocks.old lines.old sent.old in
-        let after = given element_data.new prices.new links.new holders.new states.new readings.new blocks.new lines.new sent.new in
-        Turns session input.answer before buffer.old result after buffer.new out.new }
-{
-    let have = session.held + bytes_arrived(session, input, buffer);
-    let ended = has_ended(session, input);
-    let progress = session.progress;
+    let ended = session.next.is_last();
     let ran = run(
-        progress,
-        &buffer[..have],
+        session.progress,
+        &buffer[..session.held],
         0,
         ended,
-        element_data,
-        prices,
-        links,
-        holders,
-        states,
-        readings,
-        blocks,
-        lines,
-        sent,
-        records,
+        store,
         out,
     );
-    let held = keep_rest(buffer, ran.next, have);
-    let failed = has_failed(session, input);
-    let turns = session.turns + 1;
-    let after = ran.progress;
+    buffer.copy_within(ran.next..session.held, 0);
     Turned {
         session: Session {
-            progress: after,
-            held,
-            waits: ran.waits,
-            ended,
-            failed,
-            unwritten: false,
-            turns,
+            progress: ran.progress,
+            held: session.held - ran.next,
+            next: session.next.after(ran.waits),
         },
         written: ran.written,
     }
@@ -175,41 +126,44 @@ pub fn turn(
 
 // ---- the input and the output
 
-// One read; where it fails, the program says so.
-fn read_input<E: Eprint, R: Read>(rt: &E, reader: &mut R, free: &mut [u8]) -> Input {
-    match read_some(reader, free) {
-        Ok(count) => Input {
-            answer: count as isize,
-        },
+// Where the session asks for more bytes, one read puts them behind those in hand; where it fails, the program says so.
+fn read_on<E: Eprint, R: Read>(
+    rt: &E,
+    reader: &mut R,
+    session: Session,
+    buffer: &mut [u8],
+) -> Result<Session, Failure>
+    requires { session.held ≤ length buffer.old }
+    ensures front { take session.held buffer.new ≡ take session.held buffer.old }
+    ensures read { MatchResult result
+        (λ s. Arrived (R.remaining reader.old) (R.remaining reader.new) session buffer.new s)
+        (λ f. (f ≡ Failure.Unread) × (session.next ≡ Next.Read) × Keeps (R.remaining reader.old) (R.remaining reader.new)) }
+{
+    let Next::Read = session.next else {
+        return Ok(session);
+    };
+    match read_some(reader, &mut buffer[session.held..]) {
+        Ok(count) => Ok(Session {
+            held: session.held + count,
+            next: if count == 0 { Next::Last } else { Next::Held },
+            ..session
+        }),
         Err(e) => {
             let _ = eprintln!(rt; "settle: the input could not be read: {e}");
-            Input { answer: -1 }
+            Err(Failure::Unread)
         }
     }
 }
 
-// Where the session waits, reads behind the bytes in hand.
-fn read_on<E: Eprint, R: Read>(rt: &E, reader: &mut R, session: Session, buffer: &mut [u8]) -> Input
-    requires { session.held ≤ length buffer.old }
-    ensures { take session.held buffer.new ≡ take session.held buffer.old }
+// Writes a text; where that fails, the program says so.
+fn write_out<E: Eprint, W: Write>(rt: &E, output: &mut W, text: &[u8]) -> Result<(), Failure>
+    ensures { MatchResult result (λ _. Appends (W.contents output.old) (W.contents output.new) text.now) (λ f. f ≡ Failure.Unwritten) }
 {
-    if session.waits {
-        let held = session.held;
-        return read_input(rt, reader, &mut buffer[held..]);
-    }
-    Input { answer: 0 }
-}
-
-// Writes the front of the output; where that fails, the program says so.
-fn write_out<E: Eprint, W: Write>(rt: &E, output: &mut W, out: &[u8], count: usize) -> Output
-    requires { count ≤ length out.now }
-    ensures { result.count ≡ count }
-{
-    match write_whole(output, &out[..count]) {
-        Ok(()) => Output { count, done: true },
+    match write_whole(output, text) {
+        Ok(()) => Ok(()),
         Err(e) => {
             let _ = eprintln!(rt; "settle: the output could not be written: {e}");
-            Output { count, done: false }
+            Err(Failure::Unwritten)
         }
     }
 }
@@ -222,99 +176,55 @@ fn begin_session() -> Session
     Session {
         progress: begin(),
         held: 0,
-        waits: true,
-        ended: false,
-        failed: false,
-        unwritten: false,
-        turns: 0,
+        next: Next::Read,
     }
 }
 
-// Whether a turn's text was written.
-fn with_output(session: Session, output: Output) -> Session
-    ensures { result ≡ with_output session output }
+// As many turns as can be counted: a proved loop has to end, and nothing says that the input does.
+fn most_turns() -> u64
+    ensures { result ≡ last_number }
 {
-    let mut after = session;
-    after.unwritten = !output.done;
-    after
+    u64::MAX
 }
 
-fn goes_on(session: Session) -> bool
-    ensures { result ≡ goes_on session }
-{
-    if session.unwritten {
-        return false;
-    }
-    if session.progress.over {
-        return false;
-    }
-    if session.failed {
-        return false;
-    }
-    session.turns < u64::MAX
-}
-
-fn status(session: Session) -> u32
-    ensures { result ≡ status_of session }
-{
-    if session.unwritten {
-        return 1;
-    }
-    if session.progress.over {
-        return 0;
-    }
-    if session.failed { 2 } else { 3 }
-}
-
-// Reads, makes a turn and writes, until the run is over, the input cannot be read or the output cannot be written; the program's status.
+// Reads, makes a turn and writes, until the run is over, the input cannot be read or the output cannot be written.
 fn run_session<E: Eprint, R: Read, W: Write>(
     rt: &E,
     reader: &mut R,
     output: &mut W,
     buffer: &mut [u8],
-    element_data: &mut [u8],
-    prices: &mut [i64],
-    links: &mut [u64],
-    holders: &mut [u64],
-    states: &mut [u64],
-    readings: &mut [u32],
-    blocks: &mut [u8],
-    lines: &mut [i64],
-    sent: &mut [i64],
-    records: &mut [i64],
+    store: &mut Store,
     out: &mut [u8],
-) -> u32
-    requires sized { Sized (given element_data.old prices.old links.old holders.old states.old readings.old blocks.old lines.old sent.old) }
-    requires buffer_len { (length buffer.old ≡ buffer_size) × (length records.old ≡ settle_records * record_size)
-        × (longest_text ≤ length out.old) }
-    ensures { let after = given element_data.new prices.new links.new holders.new states.new readings.new blocks.new lines.new sent.new in
-        Ended result after buffer.new }
+) -> Result<(), Failure>
+    requires sized { Stocked store.old }
+    requires buffer_len { (length buffer.old ≡ buffer_size) × (longest_text ≤ length out.old) }
+    ensures same { SameSlices store.old store.new }
+    ensures settles { (given : List ℕ) → R.remaining reader.old ≡ Some given
+        → OnOk result (Appends (W.contents output.old) (W.contents output.new) (settled given)) }
+    ensures ended { (session : Session) × (read written : List ℕ) × Ended result session (lists_in store.new) buffer.new read written
+        × Carried result session (R.remaining reader.old) (R.remaining reader.new) (W.contents output.old) (W.contents output.new)
+        read written }
 {
     let mut session = begin_session();
-    while goes_on(session) {
-        let input = read_on(rt, reader, session, buffer);
-        let turned = turn(
-            session,
-            input,
-            buffer,
-            element_data,
-            prices,
-            links,
-            holders,
-            states,
-            readings,
-            blocks,
-            lines,
-            sent,
-            records,
-            out,
-        );
-        let written = turned.written;
-        let handed = write_out(rt, output, out, written);
-        let after = turned.session;
-        session = with_output(after, handed);
+    for _turn in 0..most_turns() {
+        session = read_on(rt, reader, session, buffer)?;
+        let turned = turn(session, buffer, store, out);
+        session = turned.session;
+        write_out(rt, output, &out[..turned.written])?;
+        if let Progress::Over = session.progress {
+            return Ok(());
+        }
     }
-    status(session)
+    Err(Failure::Unfinished)
+}
+
+fn status(outcome: Result<(), Failure>) -> u8
+    ensures { result ≡ status_of outcome }
+{
+    match outcome {
+        Ok(()) => 0,
+        Err(failure) => failure.status(),
+    }
 }
 
 // ---- the program
@@ -341,8 +251,9 @@ fn no_text() -> [u8; TEXT_PLACES]
 }
 
 // What the program does, and its status: `main` of `settle_program` ends with it.
-pub fn settle_run<R: ReadsInput + Print + Eprint>(rt: &R) -> u32
-    ensures ended { (after : Lists) × ((buffer : List ℕ) × Ended result after buffer) }
+pub fn settle_run<R: ReadsInput + Print + Eprint>(rt: &R) -> u8
+    ensures ended { (after : Lists) × (buffer read written : List ℕ) × (session : Session) × (outcome : Result ⊤ Failure)
+        × (result ≡ status_of outcome) × Ended outcome session after buffer read written }
     ensures fits { result ≤ 3 }
 {
     let mut reader = rt.reader();
@@ -359,21 +270,25 @@ pub fn settle_run<R: ReadsInput + Print + Eprint>(rt: &R) -> u32
     let mut records = no_records();
     let mut out = no_text();
     let mut buffer = io::large_buffer();
-    run_session(
+    let mut store = Store {
+        element_data: &mut element_data,
+        prices: &mut prices,
+        links: &mut links,
+        holders: &mut holders,
+        states: &mut states,
+        readings: &mut readings,
+        blocks: &mut blocks,
+        lines: &mut lines,
+        sent: &mut sent,
+        records: &mut records,
+    };
+    let outcome = run_session(
         rt,
         &mut reader,
         &mut output,
         &mut buffer,
-        &mut element_data,
-        &mut prices,
-        &mut links,
-        &mut holders,
-        &mut states,
-        &mut readings,
-        &mut blocks,
-        &mut lines,
-        &mut sent,
-        &mut records,
+        &mut store,
         &mut out,
-    )
+    );
+    status(outcome)
 }

@@ -6,5 +6,5 @@ use settle::settle_run;
 use std::process::ExitCode;
 
 fn main(rt: HostRuntime) -> ExitCode {
-    ExitCode::from(settle_run(&rt) as u8)
+    ExitCode::from(settle_run(&rt))
 }

@@ -1,4 +1,4 @@
--- Laws of messages that are taken: for the proofs of the functions, and for callers.
-pub mod Applying
-pub mod ReadingApplied
-pub mod Stepping
+-- The laws of this crate, each file above what it cites.
+mod Applying
+mod ReadingApplied
+mod Stepping

@@ -1,7 +1,7 @@
 -- Message 6: the changes of the lines of the supplier who pays, as changes of all lines, are the rules'; so question 17 asks of them what
 -- the code tests, and what is written are the rules' lines.
 use Prim.Native.Nat.{ℕ, ◌+◌, ◌*◌, ◌/◌, ◌%◌}
-use mathlib.Core.Path.{◌≡◌, sym, ap, ◌∙◌}
+use mathlib.Core.Path.{◌≡◌, refl, sym, ap, ◌∙◌}
 use mathlib.Core.Bool.{Bool, true, false, cond}
 use mathlib.Core.List.{List}
 use lib.IntN.{ℤ, pos}
@@ -13,16 +13,16 @@ use Rattle.rules.specs.declared.Body.TheVariants.{Reading}
 use Rattle.rules.specs.Basics.{all_to}
 use Rattle.rules.specs.Lines.{Measure}
 use Rattle.rules.specs.Sizes.{line_size}
-use Rattle.rules.specs.World.{Opening, Tables, line_count}
+use Rattle.rules.specs.World.{Opening, Tables, World, line_count}
 use Rattle.rules.specs.WellFormed.{within_limits, rows_fit, line_places, line_right, lines_right, question2}
 use Rattle.rules.specs.Effects.{told, with_readings, supplier_of, element_of, question17}
-use Rattle.rules.specs.Lent.{Lists, world_in, opening_in, tables_in, lend_lines}
+use Rattle.rules.specs.Lent.{Lists, world_in, opening_in, tables_in}
 use Rattle.rules.specs.Whole.{Whole}
 use Rattle.rules.proofs.Tests.{both}
 use Rattle.rules.proofs.Parts.{lengths, formed}
 use Rattle.rules.proofs.Ranges.{get_d_list_to}
 use Rattle.metering.specs.Hours.{Reread, RereadBoth, ReadingSettled}
-use Rattle.recording.specs.Recorded.{RecordedAs}
+use Rattle.recording.specs.Recorded.{recorded_in}
 use Rattle.ledger.specs.Added.{ByRules, own_at, own_changes, own_lines}
 use Rattle.ledger.specs.Moved.{lines_in}
 use Rattle.settlement.specs.Replies.{Applied}
@@ -52,6 +52,9 @@ lines-asked b o c = ((lengths (world_in b o) c).lines, (formed (world_in b o) c)
 
 module _ (b : Book) (o : Lists) (p d h n : ℕ) (c : Whole (world_in b o)) (out : List ℤ) (x : Bool)
     (g : ReadingSettled (opening_in b o) (tables_in b o) (Reading p d h n) o.lines out x) where
+  abbrev w : World
+  w = world_in b o
+
   abbrev body : Body
   body = Reading p d h n
 
@@ -65,17 +68,18 @@ module _ (b : Book) (o : Lists) (p d h n : ℕ) (c : Whole (world_in b o)) (out 
   rows = (both (within_limits (opening_in b o)) (rows_fit (tables_in b o)) c.limited).1
 
   -- the test is question 17
-  asked : question17 (world_in b o) body ≡ x
+  asked : question17 w body ≡ x
   unfolding own_lines
   asked = fits-is b o body _ _ own x (rw rows g.fits)
 
-  pub reading_applied : x ≡ true → (after : Lists) → RecordedAs b o body b after
-      → opening_in b after ≡ opening_in b o → after.sent ≡ o.sent
-      → Applied (world_in b o) (world_in b (lend_lines out after)) body 0
+  pub reading_applied : x ≡ true → (after : World)
+      → after ≡ record (recorded_in w body) { position = record (recorded_in w body).position { lines = out } }
+      → Applied w after body 0
   unfolding own_lines
-  reading_applied f after r same s = applied b o body _ _ own (asked ∙ f) b after r same s out (rw f at g.lines)
+  reading_applied f after e = rw e (applied b o body _ _ own (asked ∙ f) (recorded_in w body) refl out (rw f at g.lines))
 
-  pub reading-refused : x ≡ false → Applied (world_in b o) (world_in b (lend_lines out o)) body 17
-  reading-refused f =
-      let e : out ≡ o.lines = rw f at g.lines in
-      applied_not (world_in b o) (world_in b (lend_lines out o)) body (asked ∙ f) (ap (λ (l : List ℤ). world_in b (lend_lines l o)) e)
+  pub reading-refused : x ≡ false → (after : World) → after ≡ record w { position = record w.position { lines = out } }
+      → Applied w after body 17
+  reading-refused f after e =
+      let l : out ≡ o.lines = rw f at g.lines in
+      applied_not w after body (asked ∙ f) (e ∙ ap (λ (ls : List ℤ). record w { position = record w.position { lines = ls } }) l)

@@ -1,4 +1,3 @@
 -- Laws that the proofs of this crate cite.
 pub mod Measures
-pub mod Lists
 pub mod Answers

@@ -1,9 +1,10 @@
 -- A book, a message and the answers as the numbers that the exported functions take and give.
 use Rattle.std.specs.Prelude.{ℕ, ◌<◌, ◌≡◌, List, [], ◌∷◌, ℤ, pos, length, get_or}
-use Rattle.std.proofs.Math.Option.{Option, none, some}
+use Rattle.std.specs.Prelude.{Option, None, Some, Result, Ok, Err}
 use Rattle.rules.specs.declared.Book.{Book}
 use Rattle.rules.specs.declared.Fields.{Fields}
-use Rattle.rules.specs.declared.LineAnswer.{LineAnswer}
+use Rattle.rules.specs.declared.Line.{Line}
+use Rattle.rules.specs.declared.Refusal.{Refusal}
 use Rattle.rules.specs.Queries.{LineResult, DayResult}
 use Rattle.rules.specs.Sizes.{billion, end_of_days, line_size}
 use Rattle.recording.specs.Opened.{named_book, fresh_book}
@@ -73,14 +74,14 @@ unfoldable pub line_numbers : LineResult → List ℤ
 line_numbers r = r.quantity ∷ r.kroner ∷ pos r.billionths ∷ []
 
 -- a lent line afterwards: a refusal leaves it
-abbrev pub line_after : LineAnswer → (lent : List ℤ) → List ℤ
-line_after (LineAnswer.Line quantity kroner billionths) lent = quantity ∷ kroner ∷ pos billionths ∷ []
-line_after (LineAnswer.Refused a) lent = lent
+abbrev pub line_after : Result Line Refusal → (lent : List ℤ) → List ℤ
+line_after (Ok l) lent = l.quantity ∷ l.kroner ∷ pos l.billionths ∷ []
+line_after (Err r) lent = lent
 
 -- the billionths of an answer are less than a krone
-abbrev pub InKrone : LineAnswer → Type 0
-InKrone (LineAnswer.Line quantity kroner billionths) = billionths < billion
-InKrone (LineAnswer.Refused a) = 0 < billion
+abbrev pub InKrone : Result Line Refusal → Type 0
+InKrone (Ok l) = l.billionths < billion
+InKrone (Err r) = 0 < billion
 
 -- ---- a day: 36,525, which stands behind the last day, for none
 
@@ -89,13 +90,13 @@ no_day = end_of_days
 
 -- a lent day afterwards: a refusal leaves it
 abbrev pub day_after : DayResult → (lent : ℕ) → ℕ
-day_after (DayResult.answered (some d)) lent = d
-day_after (DayResult.answered none) lent = no_day
+day_after (DayResult.answered (Some d)) lent = d
+day_after (DayResult.answered None) lent = no_day
 day_after (DayResult.refused number) lent = lent
 
 -- ---- an amount that is read from packed decimal
 
 -- a lent amount afterwards: a refusal leaves it
 abbrev pub amount_after : (amount : Option ℤ) → (lent : ℤ) → ℤ
-amount_after none lent = lent
-amount_after (some a) lent = a
+amount_after None lent = lent
+amount_after (Some a) lent = a

@@ -10,7 +10,9 @@
 ghost use Rattle.std.specs.Prelude.{◌≡◌, length};
 ghost use Rattle.rules.specs.Sizes.{line_size};
 ghost use Rattle.rules.specs.Whole.{Whole};
-ghost use Rattle.rules.specs.Lent.{Lists, world_in, lend_data, lend_links, lend_rows, lend_lines, given};
+ghost use Rattle.rules.specs.Answers.{number_of};
+ghost use Rattle.rules.specs.Opening.{opening_answer, after_opening};
+ghost use Rattle.rules.specs.Lent.{Lists, world_in, lend_data, lend_links, lend_rows, lend_lines, given, open_world, SameLent};
 ghost use Rattle.settlement.specs.Replies.{Replied};
 ghost use Rattle.settlement_book.specs.Numbers.{book_size, fields_size, book_in, fields_in, fresh_in};
 ghost use Rattle.settlement_book.specs.Numbers.{SizedBook, SizedMessage, SizedLine};
@@ -22,19 +24,32 @@ pub mod questions;
 use crate::numbers::{
     BOOK_SIZE, FIELDS_SIZE, book_of, fields_of, put_book, put_day, put_line, put_reply,
 };
-use crate::questions::{Lengths, check_book, check_opening};
-use packed::{is_packed, packed_amount};
+use crate::questions::{check_book, check_opening};
+use packed::read_packed;
 use queries::periods_place;
 use queries::sums::packed_sum;
 use recording::opening::{clear_tables, fresh_book, named_book};
-use rules::{Answer, Book, Fields, LINE_SIZE};
-use settlement::{Reply, refused};
-use validation::questions::{ask_pair, number};
+use rules::{Fields, LINE_SIZE, Lent, OpenBook, Refusal, number};
+use validation::questions::ask_pair;
 
 // ---- opening
 
-// Opens the book that the first five numbers name: 0, and the fresh book's numbers; or the question that says no, and nothing is written.
-// Linear in what is lent.
+// Opens the book that `opened.book` names by its month and counts: it is the fresh book then, with zeros in every table; or the first of
+// questions 2 to 4 that says no, and nothing is written. Linear in what is lent.
+pub fn open_book(opened: &mut OpenBook) -> Result<(), Refusal>
+    ensures same { SameLent opened.old opened.new }
+    ensures number { number_of result ≡ opening_answer (open_world opened.old) }
+    ensures world { open_world opened.new ≡ after_opening (open_world opened.old) }
+    ensures whole { number_of result ≡ 0 → Whole (open_world opened.new) }
+{
+    check_opening(&opened.lent())?;
+    clear_tables(opened);
+    opened.book = fresh_book(opened.book);
+    Ok(())
+}
+
+// The same in numbers, of the book that the first five name: 0, and the fresh book's numbers; or the question that says no, and nothing is
+// written. Linear in what is lent.
 pub fn settlement_book_open(
     book: &mut [u64],
     element_data: &[u8],
@@ -61,94 +76,46 @@ pub fn settlement_book_open(
         result ≡ 0 → Whole (world_in (book_in book.new) after) }
 {
     if book.len() != BOOK_SIZE {
-        return number(Answer::WrongLength);
+        return Refusal::WrongLength.number();
     }
-    let asked_for = book_of(book);
-    let named = named_book(
-        asked_for.year,
-        asked_for.month,
-        asked_for.points,
-        asked_for.suppliers,
-        asked_for.elements,
-    );
-    let lengths = Lengths {
-        element_data: element_data.len(),
-        prices: prices.len(),
-        links: links.len(),
-        holders: holders.len(),
-        states: states.len(),
-        readings: readings.len(),
-        blocks: blocks.len(),
-        lines: lines.len(),
-        sent: sent.len(),
+    let named = book_of(book);
+    let mut opened = OpenBook {
+        book: named_book(
+            named.year,
+            named.month,
+            named.points,
+            named.suppliers,
+            named.elements,
+        ),
+        element_data,
+        prices,
+        links,
+        holders,
+        states,
+        readings,
+        blocks,
+        lines,
+        sent,
     };
-    let asked = number(check_opening(named, element_data, prices, lengths));
-    if asked != 0 {
-        return asked;
+    match open_book(&mut opened) {
+        Ok(()) => {
+            put_book(book, opened.book);
+            0
+        }
+        Err(refusal) => refusal.number(),
     }
-    let fresh = fresh_book(
-        named.year,
-        named.month,
-        named.points,
-        named.suppliers,
-        named.elements,
-    );
-    clear_tables(links, holders, states, readings, blocks, lines, sent);
-    put_book(book, fresh);
-    0
 }
 
 // ---- messages
 
 // A message of any book and any tables: questions 2 to 18; nine numbers for each record of the list. A refusal leaves book, tables and list
 // as they were. Linear in what is lent, for the questions of the book.
-pub fn message(
-    book: Book,
-    element_data: &[u8],
-    prices: &[i64],
-    links: &mut [u64],
-    holders: &mut [u64],
-    states: &mut [u64],
-    readings: &mut [u32],
-    blocks: &mut [u8],
-    lines: &mut [i64],
-    sent: &mut [i64],
-    records: &mut [i64],
-    fields: Fields,
-) -> Reply
-    ensures { let before = given element_data.now prices.now links.old holders.old states.old readings.old blocks.old lines.old sent.old in
-        let after = given element_data.now prices.now links.new holders.new states.new readings.new blocks.new lines.new sent.new in
-        Replied (world_in book before) (world_in result.book after) fields result records.old records.new }
+pub fn message(opened: &mut OpenBook, records: &mut [i64], fields: Fields) -> Result<usize, Refusal>
+    ensures same { SameLent opened.old opened.new }
+    ensures replied { Replied (open_world opened.old) (open_world opened.new) fields result records.old records.new }
 {
-    let asked = check_book(
-        book,
-        element_data,
-        prices,
-        links,
-        holders,
-        states,
-        readings,
-        blocks,
-        lines,
-        sent,
-    );
-    if number(asked) != 0 {
-        return refused(asked, book);
-    }
-    settlement::message(
-        book,
-        element_data,
-        prices,
-        links,
-        holders,
-        states,
-        readings,
-        blocks,
-        lines,
-        sent,
-        records,
-        fields,
-    )
+    check_book(&opened.lent())?;
+    settlement::message(opened, records, fields)
 }
 
 // The same in numbers: the question that says no, and everything lent is as it was, the count too; or 0, and how many records stand at the
@@ -180,14 +147,11 @@ pub fn settlement_book_message(
         (SizedMessage book.old fields.now → ⊥)
         → (result ≡ 3) × (book.new ≡ book.old) × (after ≡ before) × (records.new ≡ records.old) × (count.new ≡ count.old) }
 {
-    if book.len() != BOOK_SIZE {
-        return number(Answer::WrongLength);
+    if book.len() != BOOK_SIZE || fields.len() != FIELDS_SIZE {
+        return Refusal::WrongLength.number();
     }
-    if fields.len() != FIELDS_SIZE {
-        return number(Answer::WrongLength);
-    }
-    let reply = message(
-        book_of(book),
+    let mut opened = OpenBook {
+        book: book_of(book),
         element_data,
         prices,
         links,
@@ -197,10 +161,9 @@ pub fn settlement_book_message(
         blocks,
         lines,
         sent,
-        records,
-        fields_of(fields),
-    );
-    put_reply(reply, book, count)
+    };
+    let reply = message(&mut opened, records, fields_of(fields));
+    put_reply(reply, opened.book, book, count)
 }
 
 // The same of a book that is well formed, and stays so; for the Rust wrapper alone. Cost: as for `settlement::message`.
@@ -231,8 +194,8 @@ pub fn settlement_book_message_within(
         given element_data.now prices.now links.new holders.new states.new readings.new blocks.new lines.new sent.new in
         Whole (world_in (book_in book.new) after) }
 {
-    let reply = settlement::message(
-        book_of(book),
+    let mut opened = OpenBook {
+        book: book_of(book),
         element_data,
         prices,
         links,
@@ -242,10 +205,9 @@ pub fn settlement_book_message_within(
         blocks,
         lines,
         sent,
-        records,
-        fields_of(fields),
-    );
-    put_reply(reply, book, count)
+    };
+    let reply = settlement::message(&mut opened, records, fields_of(fields));
+    put_reply(reply, opened.book, book, count)
 }
 
 // ---- the line query
@@ -289,14 +251,11 @@ pub fn settlement_book_line(
         SizedLine book.now line.old → LineIn (world_in (book_in book.now) lists) supplier element result line.old line.new }
     ensures otherwise { (SizedLine book.now line.old → ⊥) → (result ≡ 3) × (line.new ≡ line.old) }
 {
-    if book.len() != BOOK_SIZE {
-        return number(Answer::WrongLength);
+    if book.len() != BOOK_SIZE || line.len() != LINE_SIZE {
+        return Refusal::WrongLength.number();
     }
-    if line.len() != LINE_SIZE {
-        return number(Answer::WrongLength);
-    }
-    let asked = check_book(
-        book_of(book),
+    let lent = Lent {
+        book: book_of(book),
         element_data,
         prices,
         links,
@@ -306,11 +265,10 @@ pub fn settlement_book_line(
         blocks,
         lines,
         sent,
-    );
-    if number(asked) == 0 {
-        settlement_book_line_within(book, lines, supplier, element, line)
-    } else {
-        number(asked)
+    };
+    match check_book(&lent) {
+        Ok(()) => settlement_book_line_within(book, lines, supplier, element, line),
+        Err(refusal) => refusal.number(),
     }
 }
 
@@ -335,10 +293,9 @@ pub fn settlement_book_periods_within(
         Whole w → PeriodsIn w point element result place.old place.new count.old count.new read.new }
 {
     let held = book_of(book);
-    let asked = number(ask_pair(held, point, element));
-    if asked != 0 {
+    if let Err(refusal) = ask_pair(held, point, element) {
         *read = 0;
-        return asked;
+        return refusal.number();
     }
     let part = periods_place(held, links, point, element);
     *place = part.place as u64;
@@ -374,10 +331,10 @@ pub fn settlement_book_periods(
 {
     *read = 0;
     if book.len() != BOOK_SIZE {
-        return number(Answer::WrongLength);
+        return Refusal::WrongLength.number();
     }
-    let asked = check_book(
-        book_of(book),
+    let lent = Lent {
+        book: book_of(book),
         element_data,
         prices,
         links,
@@ -387,11 +344,10 @@ pub fn settlement_book_periods(
         blocks,
         lines,
         sent,
-    );
-    if number(asked) == 0 {
-        settlement_book_periods_within(book, links, point, element, place, count, read)
-    } else {
-        number(asked)
+    };
+    match check_book(&lent) {
+        Ok(()) => settlement_book_periods_within(book, links, point, element, place, count, read),
+        Err(refusal) => refusal.number(),
     }
 }
 
@@ -440,10 +396,10 @@ pub fn settlement_book_day_without_holder(
     ensures otherwise { (SizedBook book.now → ⊥) → (result ≡ 3) × (day.new ≡ day.old) }
 {
     if book.len() != BOOK_SIZE {
-        return number(Answer::WrongLength);
+        return Refusal::WrongLength.number();
     }
-    let asked = check_book(
-        book_of(book),
+    let lent = Lent {
+        book: book_of(book),
         element_data,
         prices,
         links,
@@ -453,11 +409,12 @@ pub fn settlement_book_day_without_holder(
         blocks,
         lines,
         sent,
-    );
-    if number(asked) == 0 {
-        settlement_book_day_without_holder_within(book, links, holders, states, point, day)
-    } else {
-        number(asked)
+    };
+    match check_book(&lent) {
+        Ok(()) => settlement_book_day_without_holder_within(
+            book, links, holders, states, point, day,
+        ),
+        Err(refusal) => refusal.number(),
     }
 }
 
@@ -504,10 +461,10 @@ pub fn settlement_book_packed_sum(
     ensures otherwise { (SizedBook book.now → ⊥) → (result ≡ 3) × (bytes.new ≡ bytes.old) }
 {
     if book.len() != BOOK_SIZE {
-        return number(Answer::WrongLength);
+        return Refusal::WrongLength.number();
     }
-    let asked = check_book(
-        book_of(book),
+    let lent = Lent {
+        book: book_of(book),
         element_data,
         prices,
         links,
@@ -517,11 +474,17 @@ pub fn settlement_book_packed_sum(
         blocks,
         lines,
         sent,
-    );
-    if number(asked) == 0 {
-        settlement_book_packed_sum_within(book, element_data, lines, supplier, owner, bytes)
-    } else {
-        number(asked)
+    };
+    match check_book(&lent) {
+        Ok(()) => settlement_book_packed_sum_within(
+            book,
+            element_data,
+            lines,
+            supplier,
+            owner,
+            bytes,
+        ),
+        Err(refusal) => refusal.number(),
     }
 }
 
@@ -529,10 +492,11 @@ pub fn settlement_book_packed_sum(
 pub fn settlement_book_read_packed(bytes: &[u8], amount: &mut i64) -> u64
     ensures { ReadIn bytes.now result amount.old amount.new }
 {
-    if is_packed(bytes) {
-        *amount = packed_amount(bytes);
-        0
-    } else {
-        number(Answer::NotPacked)
+    match read_packed(bytes) {
+        Some(read) => {
+            *amount = read;
+            0
+        }
+        None => Refusal::NotPacked.number(),
     }
 }

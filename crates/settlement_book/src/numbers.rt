@@ -1,14 +1,13 @@
 // A book, a message and the answers as the numbers that the exported functions take and give.
 ghost use Rattle.std.specs.Prelude.{◌≡◌, cond, eqb, length};
 ghost use Rattle.rules.specs.Queries.{day_result_number};
-ghost use Rattle.rules.specs.Answers.{line_result, day_result, number_of};
+ghost use Rattle.rules.specs.Answers.{number_of, line_result, day_result};
 ghost use Rattle.rules.specs.Sizes.{line_size};
+ghost use Rattle.settlement.specs.Replies.{count_of};
 ghost use Rattle.settlement_book.specs.Numbers.{book_size, fields_size, book_in, numbers_in, fields_in};
 ghost use Rattle.settlement_book.specs.Numbers.{line_after, InKrone, day_after};
 
-use rules::{Book, DayAnswer, END_OF_DAYS, Fields, LineAnswer};
-use settlement::Reply;
-use validation::questions::number;
+use rules::{Book, END_OF_DAYS, Fields, Line, Refusal};
 
 // ---- a book and a message
 
@@ -17,6 +16,7 @@ pub const BOOK_SIZE: usize = 11;
 
 pub const FIELDS_SIZE: usize = 9;
 
+// No `From` can stand here, since `Book` and `Fields` are types of `rules`; a slice of any length is what C lends.
 pub fn book_of(numbers: &[u64]) -> Book
     requires { length numbers.now ≡ book_size }
     ensures { result ≡ book_in numbers.now }
@@ -40,17 +40,19 @@ pub fn put_book(numbers: &mut [u64], book: Book)
     requires { length numbers.old ≡ book_size }
     ensures { numbers.new ≡ numbers_in book }
 {
-    numbers[0] = book.year;
-    numbers[1] = book.month;
-    numbers[2] = book.points;
-    numbers[3] = book.suppliers;
-    numbers[4] = book.elements;
-    numbers[5] = book.periods;
-    numbers[6] = book.holders;
-    numbers[7] = book.states;
-    numbers[8] = book.round;
-    numbers[9] = book.first;
-    numbers[10] = book.days;
+    numbers.copy_from_slice(&[
+        book.year,
+        book.month,
+        book.points,
+        book.suppliers,
+        book.elements,
+        book.periods,
+        book.holders,
+        book.states,
+        book.round,
+        book.first,
+        book.days,
+    ]);
 }
 
 pub fn fields_of(numbers: &[u64]) -> Fields
@@ -73,56 +75,51 @@ pub fn fields_of(numbers: &[u64]) -> Fields
 // ---- answers
 
 // The question that says no, which writes nothing; or 0, with the numbers of the book that a message leaves and how many records there are.
-pub fn put_reply(reply: Reply, book: &mut [u64], count: &mut u64) -> u64
+pub fn put_reply(
+    reply: Result<usize, Refusal>,
+    after: Book,
+    book: &mut [u64],
+    count: &mut u64,
+) -> u64
     requires { length book.old ≡ book_size }
-    ensures number { result ≡ number_of reply.answer }
-    ensures book { book.new ≡ cond (eqb (number_of reply.answer) 0) (numbers_in reply.book) book.old }
-    ensures count { count.new ≡ cond (eqb (number_of reply.answer) 0) reply.records count.old }
+    ensures number { result ≡ number_of reply }
+    ensures book { book.new ≡ cond (eqb (number_of reply) 0) (numbers_in after) book.old }
+    ensures count { count.new ≡ cond (eqb (number_of reply) 0) (count_of reply) count.old }
 {
-    let answer = reply.answer;
-    let asked = number(answer);
-    if asked != 0 {
-        return asked;
+    match reply {
+        Ok(records) => {
+            put_book(book, after);
+            *count = records as u64;
+            0
+        }
+        Err(refusal) => refusal.number(),
     }
-    let after = reply.book;
-    put_book(book, after);
-    *count = reply.records as u64;
-    asked
 }
 
 // The line's three numbers, or the question that says no; a refusal writes nothing.
-pub fn put_line(answer: LineAnswer, line: &mut [i64]) -> u64
+#[tactic(auto, unfolding(rules::specs::Queries::line_refused))]
+pub fn put_line(answer: Result<Line, Refusal>, line: &mut [i64]) -> u64
     requires { (length line.old ≡ line_size) × InKrone answer }
     ensures { (result ≡ (line_result answer).number) × (line.new ≡ line_after answer line.old) }
 {
     match answer {
-        LineAnswer::Line {
-            quantity,
-            kroner,
-            billionths,
-        } => {
-            line[0] = quantity;
-            line[1] = kroner;
-            line[2] = billionths as i64;
+        Ok(found) => {
+            line.copy_from_slice(&[found.quantity, found.kroner, found.billionths as i64]);
             0
         }
-        LineAnswer::Refused(asked) => number(asked),
+        Err(refusal) => refusal.number(),
     }
 }
 
 // The day, 36,525 for none, or the question that says no; a refusal writes nothing.
-pub fn put_day(answer: DayAnswer, day: &mut u64) -> u64
+pub fn put_day(answer: Result<Option<u64>, Refusal>, day: &mut u64) -> u64
     ensures { (result ≡ day_result_number (day_result answer)) × (day.new ≡ day_after (day_result answer) day.old) }
 {
     match answer {
-        DayAnswer::Day(found) => {
-            *day = found;
+        Ok(found) => {
+            *day = found.unwrap_or(END_OF_DAYS);
             0
         }
-        DayAnswer::NoDay => {
-            *day = END_OF_DAYS;
-            0
-        }
-        DayAnswer::Refused(asked) => number(asked),
+        Err(refusal) => refusal.number(),
     }
 }

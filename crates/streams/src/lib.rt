@@ -26,18 +26,18 @@ pub fn read_some<R: Read>(input: &mut R, free: &mut [u8]) -> io::Result<usize>
     Err(io::Error::from(ErrorKind::Interrupted))
 }
 
-// Writes all of the text, or stops at the first write that takes nothing or fails, also where a signal has interrupted it: then some of
-// the text may have been written. With no text it makes no call.
+// Writes all of the text, or stops at the first write that takes nothing or fails, also where a signal has interrupted it, which std's
+// `write_all` would try again: then some of the text may have been written. With no text it makes no call.
 pub fn write_whole<W: Write>(output: &mut W, text: &[u8]) -> io::Result<()>
     ensures { OnOk result (Appends (W.contents output.old) (W.contents output.new) text.now) }
 {
-    let mut done = 0;
-    while done < text.len() {
-        let taken = output.write(&text[done..])?;
+    let mut rest = text;
+    while !rest.is_empty() {
+        let taken = output.write(rest)?;
         if taken == 0 {
             return Err(io::Error::from(ErrorKind::WriteZero));
         }
-        done += taken;
+        rest = &rest[taken..];
     }
     Ok(())
 }

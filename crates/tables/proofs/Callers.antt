@@ -4,7 +4,7 @@ use Prim.Native.Nat.{ℕ, zero, suc, ◌+◌, ◌*◌, ◌/◌, ◌≤◌, ◌<�
 use mathlib.Core.Path.{◌≡◌, refl, sym, ap, ◌∙◌}
 use mathlib.Core.Bool.{true, false, ◌&&◌, cond, false≢true, and-false}
 use mathlib.Core.List.{List, [], ◌∷◌}
-use mathlib.Core.Option.{Option, none, some}
+use Rattle.std.specs.Prelude.{Option, None, Some}
 use lib.Dec.{ltb, leb, eqb}
 use lib.ListN.{length}
 use native.Mathlib.Omega.{arith}
@@ -75,8 +75,8 @@ length_split p e d q (next {w = w} {ws = ws} i j c r) l = rw (split_cons, starts
 
 given-suc : (o : Option ℕ) (n : ℕ) → suc (cond (is_given o) n (suc n)) ≡ cond (is_given o) (suc n) (suc (suc n))
 unfolding is_given
-given-suc none n = refl
-given-suc (some v) n = refl
+given-suc None n = refl
+given-suc (Some v) n = refl
 
 module _ (size : ℕ) where
   is_dated : (p d w : ℕ) → d < day_room → w / size ≡ p * day_room + d → dated size p d w ≡ true
@@ -103,7 +103,7 @@ module _ (size : ℕ) where
       (λ u. rw (t, u, d) (ap suc (length_record pos p a v ha hv m) ∙ given-suc (recorded_on size xs p a) (length xs)))))
 
   -- between the day and the next recorded one nothing is recorded, and there something is
-  pub next-clear : (p a d : ℕ) (ws : List ℕ) → a < d → d < next_recorded size ws p a → recorded_on size ws p d ≡ none
+  pub next-clear : (p a d : ℕ) (ws : List ℕ) → a < d → d < next_recorded size ws p a → recorded_on size ws p d ≡ None
   unfolding next_recorded
   next-clear p a d [] h l = recorded_nil size p d
   next-clear p a d (w ∷ ws) h l = cases (eqb (value_point size w) p && ltb a (value_first size w))
@@ -142,14 +142,14 @@ module _ (size : ℕ) where
       (λ t. rw t ih)
 
 -- a value put in on day a rules up to the day n on which the next one is recorded
-module _ (f : ℕ → Option ℕ) (a v n : ℕ) (after : a < n) (clear : (d : ℕ) → a < d → d < n → f d ≡ none)
+module _ (f : ℕ → Option ℕ) (a v n : ℕ) (after : a < n) (clear : (d : ℕ) → a < d → d < n → f d ≡ None)
     (at : n < end_of_days → is_given (f n) ≡ true) where
   over : (o : Option ℕ) (x y : ℕ) → is_given o ≡ true → or_else o x ≡ or_else o y
   unfolding is_given or_else
-  over none x y h = absurd (false≢true h)
-  over (some u) x y h = refl
+  over None x y h = absurd (false≢true h)
+  over (Some u) x y h = refl
 
-  latest_put : (d : ℕ) → d < end_of_days → latest (λ i. cond (eqb i a) (some v) (f i)) d ≡ cond (leb a d && ltb d n) v (latest f d)
+  latest_put : (d : ℕ) → d < end_of_days → latest (λ i. cond (eqb i a) (Some v) (f i)) d ≡ cond (leb a d && ltb d n) v (latest f d)
   unfolding latest or_else
   latest_put zero h = cases (eqb 0 a)
       (λ t. let x : leb a 0 ≡ true = omega (arith, tests) in let y : ltb 0 n ≡ true = omega (arith, tests) in rw (t, x, y))
@@ -172,7 +172,7 @@ pub latest_record : (size p a v : ℕ) → a < end_of_days → v < size → (ws 
     ≡ cond (leb a d && ltb d (next_recorded size ws p a)) v (latest (recorded_on size ws p) d)
 unfolding here
 latest_record size p a v ha hv ws d h =
-    latest_cong _ (λ i. cond (eqb i a) (some v) (recorded_on size ws p i)) d
+    latest_cong _ (λ i. cond (eqb i a) (Some v) (recorded_on size ws p i)) d
     (λ i. recorded_pack size p a v (omega arith) hv ws p i ∙ rw (eq-eqb p p refl))
     ∙ latest_put (recorded_on size ws p) a v (next_recorded size ws p a) (next-after size p a ws ha)
     (λ i k l. next-clear size p a i ws k l) (next-given size p a ws) d h

@@ -1,24 +1,33 @@
 -- The words of days among rows: which rows start before a day, which cover it, and what that says of the quantity and of the rows.
-use Prim.Native.Nat.{ℕ, zero, suc, ◌+◌, ◌-◌, ◌≤◌, ◌<◌}
+use Prim.Native.Nat.{ℕ, zero, suc, ◌+◌, ◌≤◌, ◌<◌}
 use mathlib.Core.Path.{◌≡◌, refl, sym, ap, ◌∙◌}
 use mathlib.Core.Bool.{Bool, true, false, cond, false≢true}
 use mathlib.Core.List.{List, [], ◌∷◌}
-use lib.Dec.{ltb}
+use lib.Dec.{ltb, eqb}
+use Rattle.std.specs.Prelude.{Option, Some, None}
+use Rattle.std.specs.List.{find, position, position_or_len}
+use Rattle.std.specs.Option.{option_map_or}
+use Rattle.std.proofs.lemmas.List.Sums.{position_or_len_is, fails_before_first}
+use Rattle.std.proofs.lemmas.List.Folds.{find_at}
+use Rattle.std.proofs.lemmas.List.Quantifiers.{position-Some}
+use Rattle.std.proofs.lemmas.Option.{slice_get-get_or, slice_get_past}
 use lib.ListN.{length, get_or, take, set, length-set}
-use lib.Seq.{get_or-take, length-take-le, take-set-lt}
+use lib.Seq.{get_or-take, take-set-lt}
 use native.Mathlib.Omega.{arith}
 use native.Mathlib.Numerals.{add-one}
 use native.Mathlib.Nat.{le_refl, le_of_suc-le-suc, not-suc-le-zero}
-use borrow.Author.Tests.{ltb-true, ltb-false, eq-eqb, ne_eqb}
+use Prim.Native.Nat.{suc-le-suc}
+use borrow.Author.Tests.{eqb-true, eq-eqb, ne_eqb}
 use Rattle.rules.specs.Rows.{pack_period, period_first, period_end, period_quantity, covers, quantity_on, split_rows}
-use Rattle.rules.proofs.Tests.{cases}
+use Rattle.rules.proofs.Tests.{tests, cases}
 use Rattle.rules.specs.Order.{from, upto, Run, done, next, linked_in}
 use Rattle.rules.proofs.Words.{spot, from_is}
 use Rattle.rules.proofs.Clauses.{quantity-nil, quantity-cons, split_nil, split_cons}
 use Rattle.rules.proofs.Runs.{end_in, end-cons, covered, linked_nil, linked_cons}
 use Rattle.rules.specs.World.{table_of}
-use Rattle.tables.specs.Order.{LinkRows, ClearBehind}
-use Rattle.tables.specs.Search.{rows_below, RowPlace, covering_at, covering_row, Covering, end_on, put_in, Changed}
+use Rattle.tables.specs.Order.{PeriodRows, ClearBehind}
+use Rattle.tables.specs.Search.{rows_below, end_on, put_in, Changed}
+use Rattle.tables.proofs.Order.{run_rising, below-le, below_at, above_at}
 use Rattle.tables.proofs.Parts.{rows_long, table_is, table_set, length_put}
 
 -- the rows below the word of a day are those that start before it
@@ -39,78 +48,89 @@ module _ (p e d w : ℕ) where
 
 -- ---- the row that covers a day
 
-cond-suc : (b : Bool) (i j : ℕ) → suc (cond b i j) ≡ cond b (suc i) (suc j)
-cond-suc true i j = refl
-cond-suc false i j = refl
+from_later : {k : ℕ} {ws : List ℕ} → Run k ws → (j : ℕ) → j < length ws → k ≤ from (get_or ws j 0)
+from_later done j l = absurd (not-suc-le-zero l)
+from_later (next a b c r) zero l = a
+from_later (next {w = w} a b c r) (suc j) l = let z = from_later r j (le_of_suc-le-suc l) in omega arith
 
-module _ (p e d : ℕ) where
-  covering_late : {k : ℕ} {ws : List ℕ} → Run k ws → spot p e d < k → covering_at p e d ws ≡ length ws
-  unfolding covering_at
-  covering_late done h = refl
-  covering_late (next {w = w} i j c r) h = rw (not_before p e d w (omega arith)) (ap suc (covering_late r (omega arith)))
+run_apart : {k : ℕ} {ws : List ℕ} → Run k ws → (i j : ℕ) → i < j → j < length ws → upto (get_or ws i 0) ≤ from (get_or ws j 0)
+run_apart done i j h l = absurd (not-suc-le-zero l)
+run_apart (next a b c r) i zero h l = absurd (not-suc-le-zero h)
+run_apart (next a b c r) zero (suc j) h l = from_later r j (le_of_suc-le-suc l)
+run_apart (next a b c r) (suc i) (suc j) h l = run_apart r i j (le_of_suc-le-suc h) (le_of_suc-le-suc l)
 
-  -- none starts by then
-  covering_none : {k : ℕ} {ws : List ℕ} → Run k ws → rows_below (pack_period p e (d + 1) 0 0) ws ≡ 0 → covering_at p e d ws ≡ length ws
-  unfolding covering_at rows_below
-  covering_none done h = refl
-  covering_none (next {w = w} i j c r) h = cases (ltb w (pack_period p e (d + 1) 0 0))
-      (λ t. let h' : suc _ ≡ 0 = rw t at h in absurd (omega arith))
-      (λ t. let f = from-day p e (d + 1) w (ltb-false _ _ t) in
-      rw (not_before p e d w (omega arith)) (ap suc (covering_late r (omega arith))))
+-- the first place at which a test passes
+position_none : (p : ℕ → Bool) (ws : List ℕ) → ((i : ℕ) → i < length ws → p (get_or ws i 0) ≡ false) → position p ws ≡ None
+position_none p ws h =
+    let e : position_or_len p ws ≡ length ws = position_or_len_is p ws (length ws) 0 (le_refl _) h (λ l. absurd (omega arith)) in
+    let z : ltb (length ws) (length ws) ≡ false = omega (arith, tests) in
+    rw (e, z)
 
-  covering_after : (w : ℕ) {ws : List ℕ} → Run (upto w) ws → (j : ℕ) → rows_below (pack_period p e (d + 1) 0 0) ws ≡ j
-      → cond (covers p e d w) 0 (suc (covering_at p e d ws)) ≡ cond (covers p e d (get_or (w ∷ ws) j 0)) j (suc (length ws))
-  unfolding covering_at rows_below
-  covering_after w r zero h = rw (covering_none r h)
-  covering_after w done (suc j) h = absurd (omega arith)
-  covering_after w (next {w = v} {ws = vs} i b c r) (suc j) h = cases (ltb v (pack_period p e (d + 1) 0 0))
-      (λ t. let f = below-day p e (d + 1) v (ltb-true _ _ t) in
-      let n : covers p e d w ≡ false = not_after p e d w (omega arith) in
-      let h' : suc (rows_below (pack_period p e (d + 1) 0 0) vs) ≡ suc j = rw t at h in
-      rw n (ap suc (covering_after v r j (omega arith)) ∙ cond-suc (covers p e d (get_or (v ∷ vs) j 0)) j (suc (length vs))))
-      (λ t. let h' : ◌≡◌ {A = ℕ} 0 (suc j) = rw t at h in absurd (omega arith))
+position_some : (p : ℕ → Bool) (ws : List ℕ) (i : ℕ) → i < length ws → ((k : ℕ) → k < i → p (get_or ws k 0) ≡ false)
+    → p (get_or ws i 0) ≡ true → position p ws ≡ Some i
+position_some p ws i l h t =
+    let e : position_or_len p ws ≡ i = position_or_len_is p ws i 0 (omega arith) h (λ m. t) in
+    let z : ltb i (length ws) ≡ true = omega (arith, tests) in
+    rw (e, z)
+
+none_passes : (p : ℕ → Bool) (ws : List ℕ) → position p ws ≡ None → (i : ℕ) → i < length ws → p (get_or ws i 0) ≡ false
+none_passes p ws e i l = cases (ltb (position_or_len p ws) (length ws))
+    (λ t. let z : ◌≡◌ {A = Option ℕ} (Some (position_or_len p ws)) None = rw t at e in absurd (cc))
+    (λ t. fails_before_first p ws i 0 (omega (arith, tests)))
+
+-- and the row there
+pub found_row : (p : ℕ → Bool) (ws : List ℕ) (i : ℕ) → position p ws ≡ Some i → find p ws ≡ Some (get_or ws i 0)
+found_row p ws i e =
+    let s = position-Some p ws i 0 e in
+    let k : position_or_len p ws ≡ i = position_or_len_is p ws i 0 (omega (arith, s.0)) s.2 (λ l. s.1) in
+    find_at p ws ∙ rw k (slice_get-get_or ws i 0 s.0)
+
+pub found_none : (p : ℕ → Bool) (ws : List ℕ) → position p ws ≡ None → find p ws ≡ None
+found_none p ws e = cases (ltb (position_or_len p ws) (length ws))
+    (λ t. let z : ◌≡◌ {A = Option ℕ} (Some (position_or_len p ws)) None = rw t at e in absurd (cc))
+    (λ t. find_at p ws ∙ slice_get_past ws (position_or_len p ws) (omega (arith, tests)))
+
+module _ (p e d : ℕ) {ws : List ℕ} (rows : PeriodRows ws) where
+  late : (i : ℕ) → rows_below (pack_period p e (d + 1) 0 0) ws ≤ i → i < length ws → covers p e d (get_or ws i 0) ≡ false
+  late i h l =
+      let f = from-day p e (d + 1) (get_or ws i 0) (above_at _ (run_rising rows) i h l) in
+      not_before p e d (get_or ws i 0) (omega arith)
+
+  early : (i j : ℕ) → i < j → j < rows_below (pack_period p e (d + 1) 0 0) ws → covers p e d (get_or ws i 0) ≡ false
+  early i j h l =
+      let m = below-le (pack_period p e (d + 1) 0 0) ws in
+      let a = run_apart rows i j h (omega arith) in
+      let b = below-day p e (d + 1) (get_or ws j 0) (below_at _ ws j l) in
+      not_after p e d (get_or ws i 0) (omega arith)
+
+  -- no row starts by then
+  pub covering_missed : rows_below (pack_period p e (d + 1) 0 0) ws ≡ 0 → position (covers p e d) ws ≡ None
+  covering_missed z = position_none (covers p e d) ws (λ i l. late i (omega arith) l)
 
   -- the last that starts by then covers it, or none does
-  covering_last : {k : ℕ} {ws : List ℕ} → Run k ws → (j : ℕ) → rows_below (pack_period p e (d + 1) 0 0) ws ≡ suc j
-      → covering_at p e d ws ≡ cond (covers p e d (get_or ws j 0)) j (length ws)
-  unfolding covering_at rows_below
-  covering_last done j h = absurd (omega arith)
-  covering_last (next {w = w} {ws = ws} i b c r) j h = cases (ltb w (pack_period p e (d + 1) 0 0))
-      (λ t. let h' : suc (rows_below (pack_period p e (d + 1) 0 0) ws) ≡ suc j = rw t at h in covering_after w r j (omega arith))
-      (λ t. let h' : ◌≡◌ {A = ℕ} 0 (suc j) = rw t at h in absurd (omega arith))
-
--- what the search finds of a table: no row starts by then, or the last that does covers the day, or none does
-module _ (p e d : ℕ) {xs : List ℕ} {n at : ℕ} (rows : LinkRows xs n) (found : RowPlace xs n (pack_period p e (d + 1) 0 0) at) where
-  long : length (take n xs) ≡ n
-  long = length-take-le n xs rows.fits
-
-  pub covering_missed : at ≡ 0 → Covering p e d xs n n
-  covering_missed z = record { is = sym (covering_none p e d rows.run (sym found.is ∙ z) ∙ long); within = le_refl n }
-
-  pub covering_found : 0 < at → (v : Bool) → covers p e d (get_or xs (at - 1) 0) ≡ v → Covering p e d xs n (cond v (at - 1) n)
-  covering_found some v h =
-      let i = found.is in
-      let w = found.within in
-      let k = covering_last p e d rows.run (at - 1) (omega arith) in
-      let z : covering_at p e d (take n xs) ≡ cond v (at - 1) n = rw (get_or-take n xs (at - 1) 0 (omega arith), h, long) at k in
-      record { is = sym z; within = low v }
-    where
-      low : (v : Bool) → cond v (at - 1) n ≤ n
-      low true = let w = found.within in omega arith
-      low false = le_refl n
+  pub covering_found : (j : ℕ) → rows_below (pack_period p e (d + 1) 0 0) ws ≡ j + 1
+      → position (covers p e d) ws ≡ cond (covers p e d (get_or ws j 0)) (Some j) None
+  covering_found j z =
+      let m = below-le (pack_period p e (d + 1) 0 0) ws in
+      cases (covers p e d (get_or ws j 0))
+      (λ t. rw t (position_some (covers p e d) ws j (omega arith) (λ i h. early i j h (omega arith)) t))
+      (λ t. rw t (position_none (covers p e d) ws (λ i l. cases (ltb i j)
+      (λ u. early i j (omega (arith, tests)) (omega arith))
+      (λ u. cases (eqb i j)
+      (λ v. rw (eqb-true i j v) t)
+      (λ v. late i (omega (arith, tests)) l)))))
 
 -- ---- what the row that covers a day says of it
 
 module _ (p e d : ℕ) where
-  pub quantity_covering : (ws : List ℕ) → quantity_on ws p e d ≡ period_quantity (covering_row p e d ws)
-  unfolding covering_row covering_at period_quantity
+  pub quantity_covering : (ws : List ℕ) → quantity_on ws p e d ≡ option_map_or period_quantity (find (covers p e d) ws) 0
   quantity_covering [] = quantity-nil p e d
   quantity_covering (w ∷ ws) = rw quantity-cons (cases (covers p e d w)
       (λ t. rw t)
       (λ t. rw t (quantity_covering ws)))
 
-  pub end_covering : (ws : List ℕ) → end_on ws p e d ≡ period_end (covering_row p e d ws)
-  unfolding covering_row covering_at end_on period_end
+  pub end_covering : (ws : List ℕ) → end_on ws p e d ≡ option_map_or period_end (find (covers p e d) ws) 0
+  unfolding end_on
   end_covering [] = refl
   end_covering (w ∷ ws) = cases (covers p e d w)
       (λ t. rw t)
@@ -126,74 +146,66 @@ module _ (p e d : ℕ) where
 
   -- a new quantity: nothing where no row covers the day, the row in place of the old where it starts there, else two rows
   module _ (q : ℕ) where
-    split_none : (ws : List ℕ) → length ws ≤ covering_at p e d ws → split_rows p e d q ws ≡ ws
-    unfolding covering_at
+    split_none : (ws : List ℕ) → ((i : ℕ) → i < length ws → covers p e d (get_or ws i 0) ≡ false) → split_rows p e d q ws ≡ ws
     split_none [] h = split_nil p e d q
-    split_none (w ∷ ws) h = rw split_cons (cases (covers p e d w)
-        (λ t. let h' : suc (length ws) ≤ 0 = rw t at h in absurd (not-suc-le-zero h'))
-        (λ t. let h' : suc (length ws) ≤ suc (covering_at p e d ws) = rw t at h in
-        rw t (ap (λ (l : List ℕ). w ∷ l) (split_none ws (le_of_suc-le-suc h')))))
+    split_none (w ∷ ws) h =
+        rw (split_cons, h 0 (omega arith)) (ap (λ (l : List ℕ). w ∷ l) (split_none ws (λ i l. h (suc i) (suc-le-suc l))))
 
-    split_first : (ws : List ℕ) → let at = covering_at p e d ws in
-        let v = get_or ws at 0 in
-        at < length ws → period_first v ≡ d → split_rows p e d q ws ≡ set ws at (pack_period p e d (period_end v) q)
-    unfolding covering_at
-    split_first [] h f = absurd (not-suc-le-zero h)
-    split_first (w ∷ ws) h f = rw split_cons (cases (covers p e d w)
-        (λ t. let f' : period_first w ≡ d = rw t at f in rw (t, eq-eqb (period_first w) d f'))
-        (λ t. let h' : suc (covering_at p e d ws) < suc (length ws) = rw t at h in
-        let f' : period_first (get_or ws (covering_at p e d ws) 0) ≡ d = rw t at f in
-        rw t (ap (λ (l : List ℕ). w ∷ l) (split_first ws (le_of_suc-le-suc h') f'))))
+    split_first : (ws : List ℕ) (at : ℕ) → at < length ws → ((i : ℕ) → i < at → covers p e d (get_or ws i 0) ≡ false)
+        → covers p e d (get_or ws at 0) ≡ true → let v = get_or ws at 0 in
+        period_first v ≡ d → split_rows p e d q ws ≡ set ws at (pack_period p e d (period_end v) q)
+    split_first [] at l h t f = absurd (not-suc-le-zero l)
+    split_first (w ∷ ws) zero l h t f = rw (split_cons, t, eq-eqb (period_first w) d f)
+    split_first (w ∷ ws) (suc at) l h t f =
+        rw (split_cons, h 0 (omega arith))
+        (ap (λ (r : List ℕ). w ∷ r) (split_first ws at (le_of_suc-le-suc l) (λ i k. h (suc i) (suc-le-suc k)) t f))
 
-    split_two : (ws : List ℕ) → let at = covering_at p e d ws in
-        let v = get_or ws at 0 in
-        at < length ws → (period_first v ≡ d → ⊥)
-        → split_rows p e d q ws
+    split_two : (ws : List ℕ) (at : ℕ) → at < length ws → ((i : ℕ) → i < at → covers p e d (get_or ws i 0) ≡ false)
+        → covers p e d (get_or ws at 0) ≡ true → let v = get_or ws at 0 in
+        (period_first v ≡ d → ⊥) → split_rows p e d q ws
         ≡ put_in (suc at) (pack_period p e d (period_end v) q) (set ws at (pack_period p e (period_first v) d (period_quantity v)))
-    unfolding covering_at put_in
-    split_two [] h f = absurd (not-suc-le-zero h)
-    split_two (w ∷ ws) h f = rw split_cons (cases (covers p e d w)
-        (λ t. let f' : period_first w ≡ d → ⊥ = rw t at f in rw (t, ne_eqb (period_first w) d f'))
-        (λ t. let h' : suc (covering_at p e d ws) < suc (length ws) = rw t at h in
-        let f' : period_first (get_or ws (covering_at p e d ws) 0) ≡ d → ⊥ = rw t at f in
-        rw t (ap (λ (l : List ℕ). w ∷ l) (split_two ws (le_of_suc-le-suc h') f'))))
+    unfolding put_in
+    split_two [] at l h t f = absurd (not-suc-le-zero l)
+    split_two (w ∷ ws) zero l h t f = rw (split_cons, t, ne_eqb (period_first w) d f)
+    split_two (w ∷ ws) (suc at) l h t f =
+        rw (split_cons, h 0 (omega arith))
+        (ap (λ (r : List ℕ). w ∷ r) (split_two ws at (le_of_suc-le-suc l) (λ i k. h (suc i) (suc-le-suc k)) t f))
 
 -- ---- a new quantity in the whole table, at the place that the search found
 
-module _ (q : ℕ) {p e d : ℕ} {xs : List ℕ} {n at : ℕ} (c : ClearBehind xs n) (found : Covering p e d xs n at) where
-  pub split_stays : n ≤ at → Changed (split_rows p e d q (take n xs)) xs n
+module _ (p e d q : ℕ) {xs : List ℕ} {n : ℕ} (c : ClearBehind xs n) where
+  pub split_stays : position (covers p e d) (take n xs) ≡ None → Changed (split_rows p e d q (take n xs)) xs n
   split_stays h =
-      let l = rows_long xs n c in
-      let f = found.is in
-      let s = split_none p e d q (take n xs) (omega arith) in
-      record { is = rw s (table_is xs n c); count = rw s (sym l) }
+      let s = split_none p e d q (take n xs) (none_passes (covers p e d) (take n xs) h) in
+      record { is = rw s (table_is xs n c); count = rw s (sym (rows_long xs n c)) }
 
-  module _ (h : at < n) where
+  module _ {at : ℕ} (found : position (covers p e d) (take n xs) ≡ Some at) where
+    pub split_inside : at < n
+    split_inside = let l = rows_long xs n c in let s = position-Some (covers p e d) (take n xs) at 0 found in omega (arith, s.0)
+
     same_row : get_or (take n xs) at 0 ≡ get_or xs at 0
-    same_row = get_or-take n xs at 0 h
-
-    inside : covering_at p e d (take n xs) < length (take n xs)
-    inside = let l = rows_long xs n c in let f = found.is in omega arith
+    same_row = get_or-take n xs at 0 split_inside
 
     pub split_replaced : (w : ℕ) → period_first (get_or xs at 0) ≡ d → w ≡ pack_period p e d (period_end (get_or xs at 0)) q
         → Changed (split_rows p e d q (take n xs)) (set xs at w) n
     split_replaced w g k =
-        let f = found.is in
-        let s : split_rows p e d q (take n xs) ≡ set (take n xs) at w
-        = split_first p e d q (take n xs) inside (rw (← f, same_row) g) ∙ rw (← f, same_row, k) in
-        record { is = rw s (table_set xs n c at w h); count = rw s (sym (length-set (take n xs) at w ∙ rows_long xs n c)) }
+        let s = position-Some (covers p e d) (take n xs) at 0 found in
+        let r : split_rows p e d q (take n xs) ≡ set (take n xs) at w
+        = split_first p e d q (take n xs) at s.0 s.2 s.1 (rw same_row g) ∙ rw (same_row, k) in
+        record { is = rw r (table_set xs n c at w split_inside); count = rw r (sym (length-set (take n xs) at w ∙ rows_long xs n c)) }
 
     module _ {v w : ℕ} (g : period_first (get_or xs at 0) ≡ d → ⊥) (k : w ≡ pack_period p e d (period_end (get_or xs at 0)) q)
         (m : v ≡ pack_period p e (period_first (get_or xs at 0)) d (period_quantity (get_or xs at 0))) where
       two_rows : split_rows p e d q (take n xs) ≡ put_in (at + 1) w (take n (set xs at v))
       two_rows =
-          let f = found.is in
-          let g' : period_first (get_or (take n xs) (covering_at p e d (take n xs)) 0) ≡ d → ⊥ = rw (← f, same_row) g in
-          split_two p e d q (take n xs) inside g' ∙ rw (← f, same_row, ← k, ← m, take-set-lt n xs at v h, add-one)
+          let s = position-Some (covers p e d) (take n xs) at 0 found in
+          let g' : period_first (get_or (take n xs) at 0) ≡ d → ⊥ = rw same_row g in
+          split_two p e d q (take n xs) at s.0 s.2 s.1 g' ∙ rw (same_row, ← k, ← m, take-set-lt n xs at v split_inside, add-one)
 
       pub split_longer : length (split_rows p e d q (take n xs)) ≡ n + 1
       split_longer =
-          let l : length (take n (set xs at v)) ≡ n = rw (take-set-lt n xs at v h, length-set) (rows_long xs n c) in
+          let i = split_inside in
+          let l : length (take n (set xs at v)) ≡ n = rw (take-set-lt n xs at v i, length-set) (rows_long xs n c) in
           rw two_rows (length_put (at + 1) w (take n (set xs at v)) (rw l (omega arith)) ∙ rw l (omega arith))
 
       pub split_put : (zs : List ℕ) → zs ≡ (table_of (put_in (at + 1) w (take n (set xs at v)))).words

@@ -1,33 +1,33 @@
 -- What a search finds: the row at a place, and where a word goes in.
-use Prim.Native.Nat.{ℕ, suc, ◌≤◌, ◌<◌}
-use mathlib.Core.Path.{◌≡◌, refl, ap}
-use mathlib.Core.Bool.{false}
+use Prim.Native.Nat.{ℕ, ◌<◌}
+use mathlib.Core.Path.{◌≡◌, refl, sym, ap, ◌∙◌}
+use mathlib.Core.Bool.{true, false}
 use mathlib.Core.List.{List, [], ◌∷◌}
-use lib.Dec.{ltb}
-use lib.ListN.{length, get_or}
+use lib.Dec.{ltb, leb}
+use Rattle.std.specs.Prelude.{Option, Some, None}
+use Rattle.std.specs.List.{find, slice_get, ItemBy}
+use Rattle.std.specs.Option.{option_map}
+use Rattle.std.proofs.lemmas.Option.{slice_get-get_or, slice_get_past}
 use native.Mathlib.Omega.{arith}
-use native.Mathlib.Nat.{le_of_suc-le-suc, not-suc-le-zero}
 use borrow.Author.Tests.{lt-ltb}
 use Rattle.rules.specs.Rows.{insert_row}
 use Rattle.rules.proofs.Tests.{tests, cases}
 use Rattle.rules.proofs.Clauses.{insert_nil, insert_cons}
 use Rattle.tables.specs.Order.{Rising, nil, row}
-use Rattle.tables.specs.Search.{rows_below, row_from, put_in}
+use Rattle.tables.specs.Search.{rows_below, put_in}
 
 -- the row at the place is the first that is not below
-pub from_at : (x : ℕ) (ws : List ℕ) → rows_below x ws < length ws → get_or ws (rows_below x ws) 0 ≡ row_from x ws
-unfolding rows_below row_from
-from_at x [] h = absurd (not-suc-le-zero h)
-from_at x (w ∷ ws) h = cases (ltb w x)
-    (λ t. let h' : suc (rows_below x ws) < suc (length ws) = rw t at h in rw t (from_at x ws (le_of_suc-le-suc h')))
-    (λ t. rw t)
+pub from_at : (x : ℕ) (ws : List ℕ) → slice_get ws (rows_below x ws) ≡ find (λ w. leb x w) ws
+unfolding rows_below
+from_at x [] = refl
+from_at x (w ∷ ws) = cases (ltb w x)
+    (λ t. let u : leb x w ≡ false = omega (arith, tests) in rw (t, u) (from_at x ws))
+    (λ t. let u : leb x w ≡ true = omega (arith, tests) in rw (t, u))
 
-pub from_none : (x : ℕ) (ws : List ℕ) → length ws ≤ rows_below x ws → row_from x ws ≡ 18446744073709551615
-unfolding rows_below row_from
-from_none x [] h = refl
-from_none x (w ∷ ws) h = cases (ltb w x)
-    (λ t. let h' : suc (length ws) ≤ suc (rows_below x ws) = rw t at h in rw t (from_none x ws (le_of_suc-le-suc h')))
-    (λ t. let h' : suc (length ws) ≤ 0 = rw t at h in absurd (not-suc-le-zero h'))
+-- what `get` gives is the element there, if there is one
+pub got : {R : Type 0} (now : R → ℕ) (xs : List ℕ) (i : ℕ) (r : Option R) → ItemBy now xs i i r → option_map now r ≡ slice_get xs i
+got now xs i None h = sym (slice_get_past xs i h.3)
+got now xs i (Some x) h = sym (slice_get-get_or xs i (now x) h.3.0 ∙ ap (λ (v : ℕ). Some v) (sym h.1))
 
 -- where nothing is below the word
 below_none : (w : ℕ) {k : ℕ} {ws : List ℕ} → Rising (λ v. v) k ws → w < k → insert_row w ws ≡ w ∷ ws

@@ -1,6 +1,5 @@
 -- The laws of this crate, each file above what it cites.
 pub mod Order
-pub mod Cleared
 pub mod Parts
 pub mod RowRange
 pub mod Found

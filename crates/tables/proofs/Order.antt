@@ -1,18 +1,20 @@
--- Rows in order, by place and by recursion, and the bridges from question 5 to what the functions require.
+-- Rows in order, by place and by recursion.
 use Prim.Native.Nat.{ℕ, zero, suc, ◌/◌, ◌≤◌, ◌<◌, zero-le, suc-le-suc}
 use mathlib.Core.Path.{◌≡◌, ap}
-use mathlib.Core.Bool.{true}
+use mathlib.Core.Bool.{true, false}
 use mathlib.Core.List.{List, [], ◌∷◌}
 use lib.Dec.{ltb}
-use lib.ListN.{length, get_or, take}
-use lib.Seq.{get_or-take, length-take-le}
+use lib.ListN.{length, get_or}
 use native.Mathlib.Omega.{arith}
 use native.Mathlib.Nat.{le_refl, le_trans, le_of_suc-le-suc, not-suc-le-zero, le-div_iff_mul-le, div-mul-le_self}
-use borrow.Author.Tests.{lt-ltb, le-ltb, ltb-true}
+use borrow.Author.Tests.{ltb-true}
+use Rattle.std.specs.List.Sorted.{IsPartitionPoint, IsPartitionedBy}
+use Rattle.std.proofs.lemmas.List.Sorted.{IsPartitionedBy-ltb}
+use Rattle.std.proofs.lemmas.Grind.{get_or_default_zero}
 use Rattle.rules.proofs.Tests.{tests, cases}
 use Rattle.rules.specs.Order.{from, Run, done, next}
 use Rattle.rules.proofs.Words.{from_lt}
-use Rattle.tables.specs.Order.{Rising, nil, row, OrderedRows, LinkRows, ValueRows}
+use Rattle.tables.specs.Order.{Rising, nil, row, InOrder}
 use Rattle.tables.specs.Search.{rows_below}
 
 -- ---- by place
@@ -34,24 +36,29 @@ module _ (key : ℕ → ℕ) where
   rising_le (row a m) (suc i) zero h l = absurd (not-suc-le-zero h)
   rising_le (row a m) (suc i) (suc j) h l = rising_le m i j (le_of_suc-le-suc h) (le_of_suc-le-suc l)
 
-module _ (xs : List ℕ) (n : ℕ) (fits : n ≤ length xs) where
-  -- the rows of a table, read from the table
-  pub rows_le : Rising (λ w. w) 0 (take n xs) → (i j : ℕ) → i ≤ j → j < n → get_or xs i 0 ≤ get_or xs j 0
-  rows_le m i j h l =
-      let z = rising_le (λ w. w) m i j h (omega (arith, length-take-le n xs fits)) in
-      rw (get_or-take n xs i 0 (omega arith), get_or-take n xs j 0 l) at z
+-- so they are parted at any word, and the place where they part is the number of rows below
+pub parted : (x : ℕ) {ws : List ℕ} → InOrder ws → IsPartitionedBy (λ w. ltb w x) ws
+parted x {ws} m = IsPartitionedBy-ltb (λ w. w) ws x (λ i j d h l.
+    let k : i < length ws = omega arith in
+    rw (get_or_default_zero ws i d k, get_or_default_zero ws j d l) (rising_le (λ w. w) m i j h l))
 
--- all rows before a place are below the word and all others are not: the place is the number of rows below
-pub below-is : (xs : List ℕ) (n x r : ℕ) → n ≤ length xs → r ≤ n → ((k : ℕ) → k < r → get_or xs k 0 < x)
-    → ((k : ℕ) → r ≤ k → k < n → x ≤ get_or xs k 0) → r ≡ rows_below x (take n xs)
+pub below-is : (x : ℕ) (ws : List ℕ) (r : ℕ) → r ≤ length ws → ((k : ℕ) → k < r → ltb (get_or ws k 0) x ≡ true)
+    → ((k : ℕ) → r ≤ k → k < length ws → ltb (get_or ws k 0) x ≡ false) → r ≡ rows_below x ws
 unfolding rows_below
-below-is xs zero x r f h b a = omega arith
-below-is [] (suc n) x r f h b a = absurd (not-suc-le-zero f)
-below-is (y ∷ ys) (suc n) x zero f h b a = rw (le-ltb y x (a 0 zero-le (omega arith)))
-below-is (y ∷ ys) (suc n) x (suc r) f h b a =
-    rw (lt-ltb y x (b 0 (omega arith)))
-    (ap suc (below-is ys n x r (le_of_suc-le-suc f) (le_of_suc-le-suc h)
-    (λ k l. b (suc k) (suc-le-suc l)) (λ k l m. a (suc k) (suc-le-suc l) (suc-le-suc m))))
+below-is x [] r h b a = omega arith
+below-is x (y ∷ ys) zero h b a = rw (a 0 zero-le (omega arith))
+below-is x (y ∷ ys) (suc r) h b a =
+    rw (b 0 (omega arith))
+    (ap suc (below-is x ys r (le_of_suc-le-suc h) (λ k l. b (suc k) (suc-le-suc l)) (λ k l m. a (suc k) (suc-le-suc l) (suc-le-suc m))))
+
+pub parts-below : (x : ℕ) (ws : List ℕ) (r : ℕ) → r ≤ length ws
+    → IsPartitionPoint (λ w. ltb w x ≡ true) (λ w. ltb w x ≡ false) ws r → r ≡ rows_below x ws
+parts-below x ws r h p = below-is x ws r h (λ k l. p.0 k 0 zero-le l) (λ k l m. p.1 k 0 l m)
+
+pub below-le : (x : ℕ) (ws : List ℕ) → rows_below x ws ≤ length ws
+unfolding rows_below
+below-le x [] = zero-le
+below-le x (w ∷ ws) = cases (ltb w x) (λ t. rw t (suc-le-suc (below-le x ws))) (λ t. rw t zero-le)
 
 -- ---- the three orders
 
@@ -78,13 +85,6 @@ module _ (size : ℕ) (pos : 0 < size) where
   pub values_rising : {k : ℕ} {ws : List ℕ} → Rising (λ v. v / size) k ws → Rising (λ v. v) 0 ws
   values_rising nil = nil
   values_rising (row {w = w} i m) = row zero-le (values_above m w (omega arith))
-
--- so the rows of each table are in order
-pub link_order : {words : List ℕ} {used : ℕ} → LinkRows words used → OrderedRows words used
-link_order l = record { fits = l.fits; order = run_rising l.run }
-
-pub value-order : {size : ℕ} {words : List ℕ} {used : ℕ} → 0 < size → ValueRows size words used → OrderedRows words used
-value-order {size} pos v = record { fits = v.fits; order = values_rising size pos v.order }
 
 -- a greater word has no fewer rows below it
 pub below_mono : (x y : ℕ) → x ≤ y → (ws : List ℕ) → rows_below x ws ≤ rows_below y ws

@@ -15,8 +15,8 @@ use Rattle.rules.proofs.Tests.{tests, cases}
 use Rattle.rules.specs.Order.{from, upto, Run, done, next}
 use Rattle.rules.proofs.Words.{spot, first_lt, element_lt, pair_true, pair_is}
 use Rattle.rules.proofs.Clauses.{stop_nil, stop_cons}
-use Rattle.tables.specs.Order.{PairFits, DayFits, LinkRows, ClearBehind}
-use Rattle.tables.specs.Search.{rows_below, RowPlace, without, cut_row, cut_before, Changed}
+use Rattle.tables.specs.Order.{PairFits, DayFits, PeriodRows}
+use Rattle.tables.specs.Search.{rows_below, without, cut_row, cut_before, Changed}
 use Rattle.tables.proofs.Order.{below_mono}
 use Rattle.tables.proofs.Parts.{take_cut}
 use Rattle.tables.proofs.RowRange.{Between}
@@ -118,22 +118,20 @@ module _ (p e d : ℕ) (he : e < element_room) (hd : d < day_room) where
 
 -- ---- what the places that the search found say of the whole table
 
-module _ {p e d : ℕ} (pair : PairFits p e) (day : DayFits d) {xs : List ℕ} {n from to : ℕ} (c : ClearBehind xs n)
-    (f : RowPlace xs n (pack_period p e d 0 0) from) (t : RowPlace xs n (pack_period p (e + 1) 0 0 0) to) where
-  pub stop_order : (from ≤ to) × (to ≤ n)
+module _ {p e d : ℕ} (pair : PairFits p e) (day : DayFits d) (xs : List ℕ) (n : ℕ) {from to : ℕ}
+    (f : from ≡ rows_below (pack_period p e d 0 0) (take n xs)) (t : to ≡ rows_below (pack_period p (e + 1) 0 0 0) (take n xs)) where
+  pub stop_order : from ≤ to
   unfolding pack_period
   stop_order =
       let hd = day.day in
-      let i = f.is in
-      let j = t.is in
       let h = below_mono (pack_period p e d 0 0) (pack_period p (e + 1) 0 0 0) (omega arith) (take n xs) in
-      (omega arith, t.within)
+      omega arith
 
-  pub stopped : LinkRows xs n → {ys zs : List ℕ} {m : ℕ} → ys ≡ cut_before p e d from xs → Changed (without from to (take n ys)) zs m
-      → Changed (stop_rows p e d (take n xs)) zs m
-  stopped rows {ys} y z =
+  pub stopped : from ≤ n → PeriodRows (take n xs) → {ys zs : List ℕ} {m : ℕ} → ys ≡ cut_before p e d from xs
+      → Changed (without from to (take n ys)) zs m → Changed (stop_rows p e d (take n xs)) zs m
+  stopped within rows {ys} y z =
       let hd = day.day in
-      let cut : take n ys ≡ cut_before p e d from (take n xs) = rw y (take_cut p e d xs n from f.within) in
+      let cut : take n ys ≡ cut_before p e d from (take n xs) = rw y (take_cut p e d xs n from within) in
       let out : without from to (take n ys) ≡ stop_rows p e d (take n xs)
-      = rw (cut, f.is, t.is) (sym (stop_rows_lem p e d pair.element (omega arith) rows.run)) in
+      = rw (cut, f, t) (sym (stop_rows_lem p e d pair.element (omega arith) rows)) in
       rw out at z

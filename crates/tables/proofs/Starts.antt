@@ -13,7 +13,7 @@ use Rattle.rules.proofs.Tests.{tests, cases}
 use Rattle.rules.specs.Order.{upto, Run, done, next}
 use Rattle.rules.proofs.Words.{from_is, element_lt, pair_true, pair_false}
 use Rattle.rules.proofs.Clauses.{starts_nil, starts_cons, next-nil, next-cons, recorded_nil, recorded_cons}
-use Rattle.tables.specs.Order.{Rising, nil, row, LinkRows, ValueRows, PairFits, PointFits}
+use Rattle.tables.specs.Order.{Rising, nil, row, PeriodRows, DatedRows, PairFits, PointFits}
 use Rattle.tables.specs.Search.{next_recorded, is_given}
 
 -- periods in order and apart are dated values in order
@@ -25,8 +25,8 @@ run_dated {j} h (next {w = w} a b c r) =
     let y : suc (w / first_unit) ≤ upto w = omega arith in
     row {w = w} z (run_dated {j = suc (w / first_unit)} y r)
 
-pub link_values : {xs : List ℕ} {n : ℕ} → LinkRows xs n → ValueRows first_unit xs n
-link_values l = record { fits = l.fits; order = run_dated (le_refl _) l.run }
+pub period_dated : {ws : List ℕ} → PeriodRows ws → DatedRows first_unit ws
+period_dated m = run_dated (le_refl _) m
 
 module _ {p e : ℕ} (fits : PairFits p e) where
   pub pair_fits : PointFits first_unit (p * element_room + e)

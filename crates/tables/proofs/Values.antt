@@ -1,26 +1,29 @@
 -- Dated values in order by point and day: which row is in force, which is next, and where a new one goes. Over the size.
 use Prim.Native.Nat.{ℕ, zero, suc, ◌+◌, ◌-◌, ◌*◌, ◌/◌, ◌≤◌, ◌<◌, min, suc-le-suc}
 use mathlib.Core.Path.{◌≡◌, refl, sym, ap, ◌∙◌}
-use mathlib.Core.Bool.{true, false, ◌&&◌, cond, false≢true}
+use mathlib.Core.Bool.{true, false, ◌&&◌, cond}
 use mathlib.Core.List.{List, [], ◌∷◌}
-use mathlib.Core.Option.{Option, none, some}
+use Rattle.std.specs.Prelude.{Option, None, Some}
 use lib.Dec.{ltb, leb, eqb}
+use Rattle.std.specs.List.{find, slice_get}
+use Rattle.std.proofs.lemmas.Option.{slice_get-get_or}
+use Rattle.std.specs.Option.{option_map_or}
 use lib.ListN.{length, get_or, take, set, length-set}
 use lib.Seq.{get_or-take, length-take-le}
 use native.Mathlib.Omega.{arith}
 use native.Mathlib.Nat.{le_refl, le_trans, le_of_suc-le-suc, not-suc-le-zero, le-mul_of_pos_right, mul-le-mul_right, suc-mul}
 use native.Mathlib.Nat.{le-div_iff_mul-le, div-lt_iff_lt-mul}
-use borrow.Author.Tests.{lt-ltb, ltb-true, ltb-false, eqb-true, eq-eqb, ne_eqb}
+use borrow.Author.Tests.{ltb-true, ltb-false, eqb-true, eq-eqb, ne_eqb}
 use Rattle.rules.specs.Sizes.{day_room, end_of_days}
 use Rattle.rules.specs.Basics.{latest, or_else}
 use Rattle.rules.specs.Rows.{pack_value, value_point, value_first, value_of, recorded_on, record_row}
 use Rattle.rules.proofs.Tests.{tests, cases, both}
 use Rattle.rules.proofs.Clauses.{dated, recorded_nil, recorded_cons, record_nil, record_cons}
 use Rattle.rules.specs.World.{table_of}
-use Rattle.tables.specs.Order.{Rising, nil, row, PointFits, ValueRows, ClearBehind}
-use Rattle.tables.specs.Search.{rows_below, RowPlace, row_from, next_recorded, is_given, put_in, Changed}
+use Rattle.tables.specs.Order.{Rising, nil, row, PointFits, ClearBehind}
+use Rattle.tables.specs.Search.{rows_below, next_recorded, is_given, put_in, Changed}
 use Rattle.tables.proofs.Parts.{rows_long, table_set, length_put}
-use Rattle.tables.proofs.Order.{rising_from, rising_le, below_at, above_at, div_le_div, values_rising}
+use Rattle.tables.proofs.Order.{rising_from, rising_le, below_at, above_at, below-le, div_le_div, values_rising}
 
 -- ---- one word
 
@@ -60,14 +63,6 @@ module _ (size : ℕ) where
     unfolding pack_value
     from-value p d w h = (le-div_iff_mul-le {k = size} {x = p * day_room + d} {y = w} pos).1 (omega arith)
 
--- no row is the word above every row
-past_all : (size p : ℕ) → PointFits size p → eqb (value_point size 18446744073709551615) p ≡ false
-past_all size p f =
-    let k : (p + 1) * day_room ≤ 18446744073709551615 / size
-    = (le-div_iff_mul-le {k = size} {x = (p + 1) * day_room} {y = 18446744073709551615} f.some).1 f.point in
-    let m = key_parts size 18446744073709551615 in
-    omega (arith, tests)
-
 -- ---- the next recorded day
 
 module _ (size p d : ℕ) where
@@ -90,68 +85,63 @@ module _ (size p d : ℕ) where
       rw t (omega arith))
       (λ t. rw t ih)
 
-  next-from : PointFits size p → {k : ℕ} {ws : List ℕ} → Rising (λ w. w / size) k ws
-      → let r = row_from (pack_value size p (d + 1) 0) ws in
-      next_recorded size ws p d ≡ cond (eqb (value_point size r) p) (min (value_first size r) end_of_days) end_of_days
-  unfolding next_recorded row_from
-  next-from f nil = rw (past_all size p f)
-  next-from f (row {w = w} {ws = ws} i m) = let k = key_parts size w in cases (ltb w (pack_value size p (d + 1) 0))
+  -- the first row from the day on tells it
+  pub next_found : PointFits size p → {k : ℕ} {ws : List ℕ} → Rising (λ w. w / size) k ws
+      → next_recorded size ws p d
+      ≡ option_map_or (λ r. cond (eqb (value_point size r) p) (min (value_first size r) end_of_days) end_of_days)
+      (find (λ w. leb (pack_value size p (d + 1) 0) w) ws) end_of_days
+  unfolding next_recorded
+  next_found f nil = refl
+  next_found f (row {w = w} {ws = ws} i m) = let k = key_parts size w in cases (ltb w (pack_value size p (d + 1) 0))
       (λ t. let b = below-value size f.some p (d + 1) w (ltb-true _ _ t) in
+      let s : leb (pack_value size p (d + 1) 0) w ≡ false = omega (arith, tests) in
       let n : (eqb (value_point size w) p && ltb d (value_first size w)) ≡ false = cases (eqb (value_point size w) p)
       (λ u. let z : ltb d (value_first size w) ≡ false = omega (arith, tests) in rw (u, z))
       (λ u. rw u) in
-      rw (t, n) (next-from f m))
+      rw (s, n) (next_found f m))
       (λ t. let b = from-value size f.some p (d + 1) w (ltb-false _ _ t) in
+      let s : leb (pack_value size p (d + 1) 0) w ≡ true = omega (arith, tests) in
       let high = next-high ws in
       cases (eqb (value_point size w) p)
       (λ u. let z : ltb d (value_first size w) ≡ true = omega (arith, tests) in
       let low = next_low (value_first size w) m (omega (arith, tests)) in
-      rw (t, u, z) (omega arith))
+      rw (s, u, z) (omega arith))
       (λ u. let low = next_low day_room m (omega (arith, tests)) in
-      rw (t, u) (omega arith)))
-
-  -- the row that the search found tells it
-  pub next_found : PointFits size p → {xs : List ℕ} {n : ℕ} → ValueRows size xs n
-      → (r : ℕ) → r ≡ row_from (pack_value size p (d + 1) 0) (take n xs)
-      → next_recorded size (take n xs) p d ≡ cond (eqb (value_point size r) p) (min (value_first size r) end_of_days) end_of_days
-  next_found f v r e = rw e (next-from f v.order)
+      rw (s, u) (omega arith)))
 
 -- ---- a value recorded that very day
 
 module _ (size p d : ℕ) where
-  pub recorded_later : {k : ℕ} {ws : List ℕ} → Rising (λ w. w / size) k ws → p * day_room + d < k → recorded_on size ws p d ≡ none
+  pub recorded_later : {k : ℕ} {ws : List ℕ} → Rising (λ w. w / size) k ws → p * day_room + d < k → recorded_on size ws p d ≡ None
   recorded_later nil h = recorded_nil size p d
   recorded_later (row {w = w} i m) h = rw (recorded_cons, not_dated size p d w (λ e. omega arith)) (recorded_later m (omega arith))
 
-  recorded_from : PointFits size p → {k : ℕ} {ws : List ℕ} → Rising (λ w. w / size) k ws
-      → let r = row_from (pack_value size p d 0) ws in
-      is_given (recorded_on size ws p d) ≡ cond (eqb (value_point size r) p) (eqb (value_first size r) d) false
-  unfolding is_given row_from
-  recorded_from f nil = rw (recorded_nil, past_all size p f)
-  recorded_from f (row {w = w} {ws = ws} i m) = cases (ltb w (pack_value size p d 0))
+  -- the first row from the day on tells it
+  pub recorded_found : PointFits size p → {k : ℕ} {ws : List ℕ} → Rising (λ w. w / size) k ws
+      → is_given (recorded_on size ws p d)
+      ≡ option_map_or (λ r. eqb (value_point size r) p && eqb (value_first size r) d) (find (λ w. leb (pack_value size p d 0) w) ws) false
+  unfolding is_given
+  recorded_found f nil = rw recorded_nil
+  recorded_found f (row {w = w} {ws = ws} i m) = cases (ltb w (pack_value size p d 0))
       (λ t. let b = below-value size f.some p d w (ltb-true _ _ t) in
-      rw (recorded_cons, not_dated size p d w (λ e. omega arith), t) (recorded_from f m))
+      let s : leb (pack_value size p d 0) w ≡ false = omega (arith, tests) in
+      rw (recorded_cons, not_dated size p d w (λ e. omega arith), s) (recorded_found f m))
       (λ t. let b = from-value size f.some p d w (ltb-false _ _ t) in
+      let s : leb (pack_value size p d 0) w ≡ true = omega (arith, tests) in
       let l = recorded_later m (omega arith) in
-      rw (recorded_cons, t) (cases (eqb (value_point size w) p)
+      rw (recorded_cons, s) (cases (eqb (value_point size w) p)
       (λ u. cases (eqb (value_first size w) d) (λ v. rw (u, v)) (λ v. rw (u, v, l)))
       (λ u. rw (u, l))))
-
-  -- the row that the search found tells it
-  pub recorded_found : PointFits size p → {xs : List ℕ} {n : ℕ} → ValueRows size xs n
-      → (r : ℕ) → r ≡ row_from (pack_value size p d 0) (take n xs)
-      → is_given (recorded_on size (take n xs) p d) ≡ cond (eqb (value_point size r) p) (eqb (value_first size r) d) false
-  recorded_found f v r e = rw e (recorded_from f v.order)
 
 -- ---- the value in force
 
 module _ (f : ℕ → Option ℕ) where
-  latest_empty : (d : ℕ) → ((i : ℕ) → i ≤ d → f i ≡ none) → latest f d ≡ 0
+  latest_empty : (d : ℕ) → ((i : ℕ) → i ≤ d → f i ≡ None) → latest f d ≡ 0
   unfolding latest or_else
   latest_empty zero h = rw (h 0 (le_refl _))
   latest_empty (suc d) h = rw (h (suc d) (le_refl _)) (latest_empty d (λ i k. h i (omega arith)))
 
-  latest-at : (a v d : ℕ) → a ≤ d → f a ≡ some v → ((i : ℕ) → a < i → i ≤ d → f i ≡ none) → latest f d ≡ v
+  latest-at : (a v d : ℕ) → a ≤ d → f a ≡ Some v → ((i : ℕ) → a < i → i ≤ d → f i ≡ None) → latest f d ≡ v
   unfolding latest or_else
   latest-at a v zero l e h = let z : a ≡ 0 = omega arith in rw (← z, e)
   latest-at a v (suc d) l e h = cases (eqb a (suc d))
@@ -160,13 +150,13 @@ module _ (f : ℕ → Option ℕ) where
 
 module _ (size p : ℕ) where
   recorded_none : (d : ℕ) (ws : List ℕ) → ((i : ℕ) → i < length ws → get_or ws i 0 / size ≡ p * day_room + d → ⊥)
-      → recorded_on size ws p d ≡ none
+      → recorded_on size ws p d ≡ None
   recorded_none d [] h = recorded_nil size p d
   recorded_none d (w ∷ ws) h =
       rw (recorded_cons, not_dated size p d w (h 0 (omega arith))) (recorded_none d ws (λ i l. h (suc i) (suc-le-suc l)))
 
   recorded_at : {k : ℕ} {ws : List ℕ} → Rising (λ w. w / size) k ws → (j : ℕ) → j < length ws → value_point size (get_or ws j 0) ≡ p
-      → recorded_on size ws p (value_first size (get_or ws j 0)) ≡ some (value_of size (get_or ws j 0))
+      → recorded_on size ws p (value_first size (get_or ws j 0)) ≡ Some (value_of size (get_or ws j 0))
   recorded_at nil j l e = absurd (not-suc-le-zero l)
   recorded_at (row {w = w} i m) zero l e = rw (recorded_cons, eq-eqb _ _ e, eq-eqb (value_first size w) (value_first size w) refl)
   recorded_at (row {w = w} {ws = ws} i m) (suc j) l e =
@@ -202,19 +192,16 @@ module _ (size p : ℕ) where
         (λ u. let y = rising_le (λ v. v / size) m n j (omega (arith, tests)) l in omega (arith, tests))
         (λ u. let y = later n (omega (arith, tests)) o in omega arith)))))
 
-  -- what the search finds of a table
-  module _ (f : PointFits size p) (d : ℕ) (hd : d < day_room) {xs : List ℕ} {n at : ℕ} (rows : ValueRows size xs n)
-      (found : RowPlace xs n (pack_value size p (d + 1) 0) at) where
-    pub value_missed : at ≡ 0 → latest (recorded_on size (take n xs) p) d ≡ 0
-    value_missed z = value_none f d hd rows.order (sym found.is ∙ z)
-
-    pub value_found : 0 < at → let w = get_or xs (at - 1) 0 in
-        latest (recorded_on size (take n xs) p) d ≡ cond (eqb (value_point size w) p) (value_of size w) 0
-    value_found pos =
-        let i = found.is in
-        let k = found.within in
-        let l = length-take-le n xs rows.fits in
-        rw (← get_or-take n xs (at - 1) 0 (omega arith)) (value-last f d hd rows.order (at - 1) (omega arith) (omega arith))
+    -- so of the rows up to that one the last tells it
+    pub value_found : (n : ℕ) → n ≡ rows_below (pack_value size p (d + 1) 0) ws → latest (recorded_on size ws p) d
+        ≡ option_map_or (λ r. cond (eqb (value_point size r) p) (value_of size r) 0) (slice_get (take n ws) (length (take n ws) - 1)) 0
+    value_found zero e = value_none (sym e)
+    value_found (suc j) e =
+        let b = below-le (pack_value size p (d + 1) 0) ws in
+        let l : length (take (suc j) ws) ≡ suc j = length-take-le (suc j) ws (omega arith) in
+        let k : suc j - 1 ≡ j = omega arith in
+        rw (l, k, slice_get-get_or (take (suc j) ws) j 0 (omega arith), get_or-take (suc j) ws j 0 (omega arith))
+        (value-last j (sym e) (omega arith))
 
 -- ---- a new value
 
@@ -263,11 +250,11 @@ module _ (size : ℕ) (pos : 0 < size) (w : ℕ) where
 -- ---- a new value in the whole table, at the place that the search found
 
 module _ (size : ℕ) (pos : 0 < size) (w : ℕ) {xs : List ℕ} {n at : ℕ} (c : ClearBehind xs n)
-    (found : RowPlace xs n (w / size * size) at) where
+    (found : at ≡ rows_below (w / size * size) (take n xs)) where
   pub record_replaced : at < n → get_or xs at 0 / size ≡ w / size → Changed (record_row size w (take n xs)) (set xs at w) n
   record_replaced h e =
       let l = rows_long xs n c in
-      let f = found.is in
+      let f = found in
       let s : record_row size w (take n xs) ≡ set (take n xs) at w
       = record_same size pos w (take n xs) (omega arith) (rw (← f, get_or-take n xs at 0 h) e) ∙ rw (← f) in
       record { is = rw s (table_set xs n c at w h); count = rw s (sym (length-set (take n xs) at w ∙ l)) }
@@ -276,7 +263,7 @@ module _ (size : ℕ) (pos : 0 < size) (w : ℕ) {xs : List ℕ} {n at : ℕ} (c
     put_new : record_row size w (take n xs) ≡ put_in at w (take n xs)
     put_new =
         let l = rows_long xs n c in
-        let f = found.is in
+        let f = found in
         let there = rows_below (w / size * size) (take n xs) in
         let k : there < length (take n xs) → get_or (take n xs) there 0 / size ≡ w / size → ⊥
         = λ h e. let h' : at < n = omega arith in
@@ -287,15 +274,8 @@ module _ (size : ℕ) (pos : 0 < size) (w : ℕ) {xs : List ℕ} {n at : ℕ} (c
     pub record_longer : length (record_row size w (take n xs)) ≡ n + 1
     record_longer =
         let l = rows_long xs n c in
-        let b = found.within in
+        let b = below-le (w / size * size) (take n xs) in
         rw put_new (length_put at w (take n xs) (omega arith) ∙ rw l (omega arith))
 
     pub record_put : (zs : List ℕ) → zs ≡ (table_of (put_in at w (take n xs))).words → Changed (record_row size w (take n xs)) zs (n + 1)
     record_put zs z = record { is = rw (← put_new) at z; count = sym record_longer }
-
--- what the test of a place says
-pub not_same : (at n x k : ℕ) → (ltb at n && eqb x k) ≡ false → at < n → x ≡ k → ⊥
-not_same at n x k h l e = let z : (ltb at n && eqb x k) ≡ true = rw (lt-ltb at n l, eq-eqb x k e) in false≢true (sym h ∙ z)
-
-pub is_same : (at n x k : ℕ) → (ltb at n && eqb x k) ≡ true → (at < n) × (x ≡ k)
-is_same at n x k h = let m = both (ltb at n) (eqb x k) h in (ltb-true at n m.0, eqb-true x k m.1)

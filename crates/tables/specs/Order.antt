@@ -16,20 +16,28 @@ pub data Rising (key : (row : ℕ) → ℕ) : (k : ℕ) → (rows : List ℕ) �
   nil : {k : ℕ} → Rising key k []
   row : {k w : ℕ} {ws : List ℕ} → k ≤ key w → Rising key (suc (key w)) ws → Rising key k (w ∷ ws)
 
--- the rows in use are strictly increasing
+-- rows that are strictly increasing; periods in order and apart; dated values, in order by point and first day, without repeats
+abbrev pub InOrder : (rows : List ℕ) → Type 0
+InOrder rows = Rising (λ w. w) 0 rows
+
+abbrev pub PeriodRows : (rows : List ℕ) → Type 0
+PeriodRows rows = Run 0 rows
+
+abbrev pub DatedRows : (size : ℕ) → (rows : List ℕ) → Type 0
+DatedRows size rows = Rising (λ w. w / size) 0 rows
+
+-- the same of the rows in use of a table
 pub record OrderedRows (words : List ℕ) (used : ℕ) : Type 0 where
   pub fits : used ≤ length words
-  pub order : Rising (λ w. w) 0 (take used words)
+  pub order : InOrder (take used words)
 
--- they are periods in order and apart
 pub record LinkRows (words : List ℕ) (used : ℕ) : Type 0 where
   pub fits : used ≤ length words
-  pub run : Run 0 (take used words)
+  pub run : PeriodRows (take used words)
 
--- they are dated values, in order by point and first day, without repeats
 pub record ValueRows (size : ℕ) (words : List ℕ) (used : ℕ) : Type 0 where
   pub fits : used ≤ length words
-  pub order : Rising (λ w. w / size) 0 (take used words)
+  pub order : DatedRows size (take used words)
 
 -- a whole table, with zeros past the rows in use
 pub record ClearBehind (words : List ℕ) (used : ℕ) : Type 0 where

@@ -1,45 +1,20 @@
--- What a search over rows in order finds, by recursion over the rows.
-use Rattle.std.specs.Prelude.{ℕ, zero, suc, ◌≤◌, min, ◌≡◌, Bool, true, false, ◌&&◌, cond, List, [], ◌∷◌, ◌++◌}
+-- What a search over rows in order finds.
+use Rattle.std.specs.Prelude.{ℕ, zero, suc, min, ◌≡◌, Bool, true, false, ◌&&◌, cond, List, [], ◌∷◌, ◌++◌}
 use Rattle.std.specs.Prelude.{length, get_or, take, drop, set, ltb, eqb}
-use Rattle.std.proofs.Math.Option.{Option, none, some}
+use Rattle.std.specs.Prelude.{Option, None, Some}
 use Rattle.rules.specs.World.{table_of}
 use Rattle.rules.specs.Sizes.{end_of_days}
 use Rattle.rules.specs.Rows.{pack_period, period_first, period_end, period_quantity, of_pair, covers, value_point, value_first}
-use Rattle.tables.specs.Order.{largest_word}
 
 -- how many rows are below the word: those up to the first that is not
 unfoldable pub rows_below : (word : ℕ) → (rows : List ℕ) → ℕ
 rows_below x [] = 0
 rows_below x (w ∷ ws) = cond (ltb w x) (suc (rows_below x ws)) 0
 
--- the place of a word, which is one of the places in use or the first behind them
-pub record RowPlace (words : List ℕ) (used word place : ℕ) : Type 0 where
-  pub is : place ≡ rows_below word (take used words)
-  pub within : place ≤ used
-
--- the first row that is not below the word, or a word above every row where there is none
-unfoldable pub row_from : (word : ℕ) → (rows : List ℕ) → ℕ
-row_from x [] = largest_word
-row_from x (w ∷ ws) = cond (ltb w x) (row_from x ws) w
-
--- the place of the first row that covers the day, or the first place behind the rows
-unfoldable pub covering_at : (point element day : ℕ) → (rows : List ℕ) → ℕ
-covering_at p e d [] = 0
-covering_at p e d (w ∷ ws) = cond (covers p e d w) 0 (suc (covering_at p e d ws))
-
--- and that row, or 0
-unfoldable pub covering_row : (point element day : ℕ) → (rows : List ℕ) → ℕ
-covering_row p e d ws = get_or ws (covering_at p e d ws) 0
-
 -- the end of the period that covers the day, or 0 where none does
 unfoldable pub end_on : (rows : List ℕ) → (point element day : ℕ) → ℕ
 end_on [] p e d = 0
 end_on (w ∷ ws) p e d = cond (covers p e d w) (period_end w) (end_on ws p e d)
-
--- the place in a table of the row that covers the day, which is one of the places in use or the first behind them
-pub record Covering (point element day : ℕ) (words : List ℕ) (used place : ℕ) : Type 0 where
-  pub is : place ≡ covering_at point element day (take used words)
-  pub within : place ≤ used
 
 -- the rows with a word put in at a place
 unfoldable pub put_in : (at word : ℕ) → (rows : List ℕ) → List ℕ
@@ -66,14 +41,10 @@ next_recorded size (w ∷ ws) p d =
     (min (value_first size w) (next_recorded size ws p d))
     (next_recorded size ws p d)
 
--- words of which the first i are the i behind the first `gap`, and the others as they were
-unfoldable pub moved : (gap : ℕ) → (words : List ℕ) → (i : ℕ) → List ℕ
-moved gap ws i = take i (drop gap ws) ++ drop i ws
-
 -- is there a value
 unfoldable pub is_given : (value : Option ℕ) → Bool
-is_given none = false
-is_given (some v) = true
+is_given None = false
+is_given (Some v) = true
 
 -- a table that has these rows and zeros behind them, and how many they are
 pub record Changed (rows words : List ℕ) (used : ℕ) : Type 0 where

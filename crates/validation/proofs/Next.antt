@@ -1,21 +1,48 @@
 -- Questions asked one after the other: the first number that is not 0 stands, whatever the rest is. Each question adds a number that
 -- is not 0, so by cases on whether it passes.
-use Prim.Native.Nat.{ℕ}
+use Prim.Native.Nat.{ℕ, ◌≤◌}
 use mathlib.Core.Path.{◌≡◌, refl, ◌∙◌}
 use mathlib.Core.Logic.{◌≢◌}
-use mathlib.Core.Bool.{Bool, true, false}
-use mathlib.Core.Option.{Option, none, some}
+use mathlib.Core.Bool.{Bool, true, false, cond}
+use Rattle.std.specs.Prelude.{Option, None, Some}
 use lib.Dec.{eqb}
 use borrow.Author.Tests.{ne_eqb}
-use Rattle.rules.specs.declared.Sender.{Sender}
+use native.Mathlib.Omega.{arith}
+use Rattle.rules.specs.declared.Refusal.{Refusal}
+use Rattle.rules.specs.Answers.{refusal_number}
 use Rattle.rules.specs.declared.Body.{Body}
-use Rattle.rules.specs.declared.Place.{Place}
 use Rattle.rules.specs.declared.Message.{Message}
 use Rattle.rules.specs.World.{Opening, Tables, World}
 use Rattle.rules.specs.Messages.{question6}
 use Rattle.rules.specs.Questions.{own_number, own_question}
 use Rattle.rules.specs.Effects.{ask, question17, question18, answer_to}
-use Rattle.validation.specs.Decided.{decided, asked10to12, or_next}
+use Rattle.validation.specs.Decided.{decided}
+
+-- the first number, or the next where the first is 0
+unfoldable pub or_next : (first next : ℕ) → ℕ
+or_next first next = cond (eqb first 0) next first
+
+-- a refusal's number is that of a question
+pub refuses : (r : Refusal) → 1 ≤ refusal_number r
+refuses Refusal.BrokenField = omega arith
+refuses Refusal.OutOfLimits = omega arith
+refuses Refusal.WrongLength = omega arith
+refuses Refusal.WrongElement = omega arith
+refuses Refusal.IllFormed = omega arith
+refuses Refusal.OutOfRange = omega arith
+refuses Refusal.UnknownPoint = omega arith
+refuses Refusal.UnknownElement = omega arith
+refuses Refusal.NotPermitted = omega arith
+refuses Refusal.OutOfTime = omega arith
+refuses Refusal.NotExisting = omega arith
+refuses Refusal.Closed = omega arith
+refuses Refusal.AlreadyLinked = omega arith
+refuses Refusal.NothingToStop = omega arith
+refuses Refusal.NoSuchQuantity = omega arith
+refuses Refusal.OutsideMonth = omega arith
+refuses Refusal.TableFull = omega arith
+refuses Refusal.ListFull = omega arith
+refuses Refusal.NotPacked = omega arith
 
 -- an answer that is its own number, or the rest where that is 0
 abbrev pub Chain : (ℕ → ℕ) → Type 0
@@ -66,19 +93,15 @@ module _ (o : Opening) (t : Tables) where
   pub decided-refused : (m : Message) → decided o t m 0 ≢ 0 → (rest : ℕ) → decided o t m rest ≡ decided o t m 0
   decided-refused m = chain_refused (decided o t m) (decided_chain m)
 
-pub day_chain : (t : Tables) (from : Sender) (received : ℕ) (l : Place) → Chain (asked10to12 t from received l)
-unfolding asked10to12
-day_chain t from received l = ask_chain _ 10 refl _ (ask_chain _ 11 refl _ (ask_chain _ 12 refl _ chain_end))
-
 -- the rules' answer asks question 6 first
 pub answer-asks_6 : (w : World) (x : Option Message) (room : ℕ) → answer_to w x room ≡ ask (question6 x) 6 (answer_to w x room)
 unfolding ask question6 answer_to
-answer-asks_6 w none room = refl
-answer-asks_6 w (some m) room = refl
+answer-asks_6 w None room = refl
+answer-asks_6 w (Some m) room = refl
 
 -- the rules' answer to a message: questions 7 to 16, then 17 and 18
 pub answer-decided : (w : World) (m : Message) (room : ℕ)
-    → answer_to w (some m) room
+    → answer_to w (Some m) room
     ≡ decided w.opening w.position.tables m (ask (question17 w m.body) 17 (ask (question18 w m.body room) 18 0))
 unfolding answer_to decided
 answer-decided w m room = refl

@@ -6,8 +6,9 @@ use mathlib.Core.Bool.{Bool, true, false, not, ◌&&◌, ◌||◌, or-false}
 use mathlib.Core.List.{List, [], ◌∷◌}
 use lib.Dec.{leb, ltb, eqb}
 use lib.ListN.{length, get_or}
-use borrow.Author.Tests.{eqb-true, leb-true}
+use borrow.Author.Tests.{leb-true}
 use native.Mathlib.Omega.{arith}
+use Rattle.std.proofs.lemmas.Grind.{common_steps}
 use Rattle.rules.specs.Sizes.{end_of_days}
 use Rattle.rules.specs.Basics.{any_to, all_in, keep}
 use Rattle.rules.specs.Rows.{period_first, period_end, of_pair, covers, quantity_on, pair_rows}
@@ -36,12 +37,7 @@ ends_after d w = ltb d (period_end w)
 any-true : (f : ℕ → Bool) (n i : ℕ) → i < n → f i ≡ true → any_to f n ≡ true
 unfolding any_to
 any-true f zero i h t = absurd (omega arith)
-any-true f (suc n) i h t = cases (f n)
-    (λ k. rw k)
-    (λ k. rw k (cases (eqb i n)
-    (λ e. let z : f n ≡ true = rw (eqb-true i n e) at t in let y : ◌≡◌ {A = Bool} true false = sym z ∙ k in
-    absurd (let x : ◌≡◌ {A = ℕ} 0 1 = cc in omega arith))
-    (λ e. any-true f n i (omega (arith, tests)) t)))
+any-true f (suc n) i h t = grind (arith, common_steps, any-true f n i)
 
 any_false : (f : ℕ → Bool) (n : ℕ) → ((i : ℕ) → i < n → f i ≡ false) → any_to f n ≡ false
 unfolding any_to
@@ -54,10 +50,7 @@ any_cong f g zero h = refl
 any_cong f g (suc n) h = rw (h n, any_cong f g n h)
 
 or_swap : (a b c d : Bool) → ((a || b) || (c || d)) ≡ ((a || c) || (b || d))
-or_swap true b c d = refl
-or_swap false true true d = refl
-or_swap false true false d = refl
-or_swap false false c d = refl
+or_swap a b c d = grind (arith, common_steps)
 
 any_or : (f g : ℕ → Bool) (n : ℕ) → any_to (λ i. f i || g i) n ≡ (any_to f n || any_to g n)
 unfolding any_to
@@ -128,9 +121,7 @@ some-rows t p e d r h =
 keep_all : (f : ℕ → Bool) (ws : List ℕ) → all_in f (keep f ws) ≡ true
 unfolding keep all_in
 keep_all f [] = refl
-keep_all f (w ∷ ws) = cases (f w)
-    (λ t. rw (t, t) (keep_all f ws))
-    (λ t. rw t (keep_all f ws))
+keep_all f (w ∷ ws) = grind (arith, common_steps, keep_all f ws)
 
 module _ (p e d : ℕ) where
   pair_cons : (w : ℕ) (ws : List ℕ) → all_in (of_pair p e) (w ∷ ws) ≡ true → (of_pair p e w ≡ true) × (all_in (of_pair p e) ws ≡ true)

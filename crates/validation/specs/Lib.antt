@@ -1,3 +1,2 @@
 -- What the answers of this crate say, and what its functions need.
-pub mod Found
 pub mod Decided

@@ -1,126 +1,75 @@
 // Question 6: from raw fields, any numbers, to a message. Matches over the role and the kind number decide who the sender is, which fields
-// apply and what the value is.
-ghost use Rattle.std.specs.Prelude.{◌≡◌, ◌&&◌, eqb};
-ghost use Rattle.rules.specs.Basics.{when};
-ghost use Rattle.rules.specs.Messages.{is_day, sender_of, fields_right, value_fits, body_named, body_of, both, understood, question6};
-ghost use Rattle.rules.specs.Effects.{ask};
-ghost use Rattle.rules.specs.declared.Body.{Body};
-ghost use Rattle.validation.specs.Found.{found_sender, found_body, found_message, understood_number};
+// apply and what the value is. Both stay numbers here: fields may be any numbers, as a file or a caller of the C interface gives them.
+ghost use Rattle.std.specs.Prelude.{◌≡◌};
+ghost use Rattle.rules.specs.Messages.{is_day, sender_of, no_element, fields_right, value_fits, body_named, body_of, understood};
 
-use pricing::is_within;
 use rules::{
     Body, CLOSED, END_OF_DAYS, Fields, HOUR_PLACES, MOST_ENERGY, MOST_QUANTITY, Message, NEW,
     Sender,
 };
 
-// A sender whose role and number are in range, or none.
-#[derive(Clone, Copy)]
-pub enum FoundSender {
-    Known(Sender),
-    Unknown,
-}
-
-// A body whose fields are in range, or none.
-#[derive(Clone, Copy)]
-pub enum FoundBody {
-    Known(Body),
-    Unknown,
-}
-
-// A message that question 6 passes, or the refusal.
-#[derive(Clone, Copy)]
-pub enum Understood {
-    Passed(Message),
-    Refused,
-}
-
+#[tactic(auto, unfolding(rules::specs::Messages::is_day))]
 fn is_day(day: u64) -> bool
     ensures { result ≡ is_day day }
 {
     day < END_OF_DAYS
 }
 
-// Two fields that are not used.
-fn both_zero(a: u64, b: u64) -> bool
-    ensures { result ≡ eqb a 0 && eqb b 0 }
-{
-    if a == 0 { b == 0 } else { false }
-}
-
-// A sender where a test holds.
-fn sender_when(holds: bool, sender: Sender) -> FoundSender
-    ensures { found_sender result ≡ when holds sender }
-{
-    if holds {
-        FoundSender::Known(sender)
-    } else {
-        FoundSender::Unknown
-    }
-}
-
 // Roles: 1 grid company, 2 Energinet, 3 a supplier of the book.
-pub fn sender_of(suppliers: u64, f: Fields) -> FoundSender
-    ensures { found_sender result ≡ sender_of suppliers f }
+#[tactic(auto, unfolding(rules::specs::Messages::sender_of, rules::specs::Basics::when, rules::specs::Basics::within))]
+pub fn sender_of(suppliers: u64, f: Fields) -> Option<Sender>
+    ensures { result ≡ sender_of suppliers f }
 {
-    let role = f.role;
-    let sender = f.sender;
-    match role {
-        1 => sender_when(sender == 0, Sender::GridCompany),
-        2 => sender_when(sender == 0, Sender::Energinet),
-        3 => sender_when(is_within(1, suppliers, sender), Sender::Supplier(sender)),
-        _ => FoundSender::Unknown,
+    match f.role {
+        1 => (f.sender == 0).then_some(Sender::GridCompany),
+        2 => (f.sender == 0).then_some(Sender::Energinet),
+        3 => (1..=suppliers)
+            .contains(&f.sender)
+            .then_some(Sender::Supplier(f.sender)),
+        _ => None,
     }
 }
 
-// Two tests, both of which hold.
-pub fn both_hold(first: bool, second: bool) -> bool
-    ensures { result ≡ first && second }
+// Neither the element nor the hour is used.
+#[tactic(auto, unfolding(rules::specs::Messages::no_element, rules::specs::Messages::no_hour))]
+fn no_element(f: Fields) -> bool
+    ensures { result ≡ no_element f }
 {
-    if first { second } else { false }
-}
-
-// Three tests, all of which hold.
-pub fn all_three(first: bool, second: bool, third: bool) -> bool
-    ensures { result ≡ first && (second && third) }
-{
-    if first {
-        if second { third } else { false }
-    } else {
-        false
-    }
+    f.element == 0 && f.hour == 0
 }
 
 // Which fields a kind uses: the days and hours that it uses are in range, and what it does not use is 0.
+#[tactic(auto, unfolding(rules::specs::Messages::fields_right, rules::specs::Messages::no_hour, rules::specs::Basics::within))]
 fn fields_right(f: Fields) -> bool
     ensures { result ≡ fields_right f }
 {
-    let kind = f.kind;
-    match kind {
+    match f.kind {
         // point, element and day
-        1..=3 => both_hold(is_day(f.day), f.hour == 0),
+        1..=3 => is_day(f.day) && f.hour == 0,
         // point and day
-        4 | 5 => both_hold(is_day(f.day), both_zero(f.element, f.hour)),
+        4 | 5 => is_day(f.day) && no_element(f),
         // point, day and hour
-        6 => all_three(is_day(f.day), f.element == 0, f.hour < HOUR_PLACES as u64),
+        6 => is_day(f.day) && f.element == 0 && f.hour < HOUR_PLACES as u64,
         // the point
-        7 => both_hold(f.day == 0, both_zero(f.element, f.hour)),
+        7 => f.day == 0 && no_element(f),
         // none
-        8 => all_three(f.point == 0, both_zero(f.element, f.hour), f.day == 0),
+        8 => f.point == 0 && no_element(f) && f.day == 0,
         _ => false,
     }
 }
 
 // What a kind's value is: it is in range; kinds 2 and 8 have none.
+#[tactic(auto, unfolding(rules::specs::Messages::value_fits, rules::specs::Messages::is_quantity, rules::specs::Basics::within))]
 fn value_fits(suppliers: u64, kind: u64, value: u64) -> bool
     ensures { result ≡ value_fits suppliers kind value }
 {
     match kind {
         // a quantity
-        1 | 3 => is_within(1, MOST_QUANTITY, value),
+        1 | 3 => (1..=MOST_QUANTITY).contains(&value),
         // a holder
         4 => value <= suppliers,
         // a state
-        5 => is_within(NEW, CLOSED, value),
+        5 => (NEW..=CLOSED).contains(&value),
         // Wh
         6 => value <= MOST_ENERGY,
         // a block mark
@@ -129,139 +78,83 @@ fn value_fits(suppliers: u64, kind: u64, value: u64) -> bool
     }
 }
 
-// Kind 1.
-fn link_of(f: Fields) -> Body
-    ensures { result ≡ Body.Link f.point f.element f.day f.value }
-{
-    Body::Link {
-        point: f.point,
-        element: f.element,
-        day: f.day,
-        quantity: f.value,
-    }
-}
-
-// Kind 2.
-fn stop_of(f: Fields) -> Body
-    ensures { result ≡ Body.Stop f.point f.element f.day }
-{
-    Body::Stop {
-        point: f.point,
-        element: f.element,
-        day: f.day,
-    }
-}
-
-// Kind 3.
-fn quantity_of(f: Fields) -> Body
-    ensures { result ≡ Body.Quantity f.point f.element f.day f.value }
-{
-    Body::Quantity {
-        point: f.point,
-        element: f.element,
-        day: f.day,
-        quantity: f.value,
-    }
-}
-
-// Kind 4.
-fn holder_of(f: Fields) -> Body
-    ensures { result ≡ Body.Holder f.point f.day f.value }
-{
-    Body::Holder {
-        point: f.point,
-        day: f.day,
-        holder: f.value,
-    }
-}
-
-// Kind 5.
-fn state_of(f: Fields) -> Body
-    ensures { result ≡ Body.State f.point f.day f.value }
-{
-    Body::State {
-        point: f.point,
-        day: f.day,
-        state: f.value,
-    }
-}
-
-// Kind 6.
-fn reading_of(f: Fields) -> Body
-    ensures { result ≡ Body.Reading f.point f.day f.hour f.value }
-{
-    Body::Reading {
-        point: f.point,
-        day: f.day,
-        hour: f.hour,
-        energy: f.value,
-    }
-}
-
-// Kind 7.
-fn block_of(f: Fields) -> Body
-    ensures { result ≡ Body.Block f.point f.value }
-{
-    Body::Block {
-        point: f.point,
-        blocked: f.value,
-    }
-}
-
 // The body that a kind number names.
+#[tactic(auto, unfolding(rules::specs::Messages::body_named))]
 fn body_named(f: Fields) -> Body
     ensures { result ≡ body_named f }
 {
-    let kind = f.kind;
+    let Fields {
+        kind,
+        point,
+        element,
+        day,
+        hour,
+        value,
+        ..
+    } = f;
     match kind {
-        1 => link_of(f),
-        2 => stop_of(f),
-        3 => quantity_of(f),
-        4 => holder_of(f),
-        5 => state_of(f),
-        6 => reading_of(f),
-        7 => block_of(f),
+        1 => Body::Link {
+            point,
+            element,
+            day,
+            quantity: value,
+        },
+        2 => Body::Stop {
+            point,
+            element,
+            day,
+        },
+        3 => Body::Quantity {
+            point,
+            element,
+            day,
+            quantity: value,
+        },
+        4 => Body::Holder {
+            point,
+            day,
+            holder: value,
+        },
+        5 => Body::State {
+            point,
+            day,
+            state: value,
+        },
+        6 => Body::Reading {
+            point,
+            day,
+            hour,
+            energy: value,
+        },
+        7 => Body::Block {
+            point,
+            blocked: value,
+        },
         _ => Body::Round,
     }
 }
 
 // A body whose fields are in range.
-pub fn body_of(suppliers: u64, f: Fields) -> FoundBody
-    ensures { found_body result ≡ body_of suppliers f }
+#[tactic(auto, unfolding(rules::specs::Messages::body_of, rules::specs::Basics::when))]
+pub fn body_of(suppliers: u64, f: Fields) -> Option<Body>
+    ensures { result ≡ body_of suppliers f }
 {
-    let right = fields_right(f);
-    let fits = value_fits(suppliers, f.kind, f.value);
-    if both_hold(right, fits) {
-        FoundBody::Known(body_named(f))
-    } else {
-        FoundBody::Unknown
-    }
+    (fields_right(f) && value_fits(suppliers, f.kind, f.value)).then_some(body_named(f))
 }
 
-fn joined(received: u64, sender: FoundSender, body: FoundBody) -> Understood
-    ensures { found_message result ≡ both received (found_sender sender) (found_body body) }
+// Question 6, of any fields: the message that they are, or none.
+#[tactic(auto, unfolding(rules::specs::Messages::understood, rules::specs::Messages::both))]
+pub fn understand(suppliers: u64, f: Fields) -> Option<Message>
+    ensures { result ≡ understood suppliers f }
 {
-    let FoundSender::Known(s) = sender else {
-        return Understood::Refused;
-    };
-    let FoundBody::Known(b) = body else {
-        return Understood::Refused;
-    };
-    Understood::Passed(Message {
-        sender: s,
-        received: received,
-        body: b,
+    if !is_day(f.received) {
+        return None;
+    }
+    let sender = sender_of(suppliers, f)?;
+    let body = body_of(suppliers, f)?;
+    Some(Message {
+        sender,
+        received: f.received,
+        body,
     })
-}
-
-// Question 6, of any fields.
-pub fn understand(suppliers: u64, f: Fields) -> Understood
-    ensures message { found_message result ≡ understood suppliers f }
-    ensures number { understood_number result ≡ ask (question6 (understood suppliers f)) 6 0 }
-{
-    if is_day(f.received) {
-        joined(f.received, sender_of(suppliers, f), body_of(suppliers, f))
-    } else {
-        Understood::Refused
-    }
 }

@@ -1,11 +1,10 @@
--- A month has at most 31 days, so no product is large; the place is the definition's.
+-- A month has at most 31 days, so no product is large.
 use Prim.Native.Nat.{◌*◌, ◌≤◌}
 use native.Mathlib.Nat.{mul-le-mul}
 use native.Mathlib.Omega.{arith}
 use Rattle.calendar.specs.Gregorian.{longest_month}
 use Rattle.calendar.proofs.MonthLaws.{days-range}
 use Rattle.rules.specs.Sizes.{most_points}
-use Rattle.rules.specs.World.{reading_at, month_first, month_days}
 use borrow.Author.Rules.{rules}
 use Rattle.facts.proofs.reading_place.Goals as goal
 use Rattle.facts.proofs.reading_place.Goals.{After-month_days-days}
@@ -28,7 +27,3 @@ overflow_mul-result c = let p = product c in search rules
 
 pub overflow_add-result : goal.overflow_add-result
 overflow_add-result c = let p = product c in search rules
-
-pub returns : goal.returns
-unfolding reading_at month_first month_days
-returns c o = rw (c.month_first-first.ensures, c.month_days-days.ensures)

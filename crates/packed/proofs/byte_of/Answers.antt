@@ -1,7 +1,6 @@
 -- `packed::byte_of` meets its contract: two half-bytes of at most 15 make a byte.
 use Prim.Native.Nat.{◌≤◌}
 use Rattle.rules.proofs.Packed.{half_low}
-use Rattle.packed.proofs.Steps.{byte_halves}
 use native.Mathlib.Omega.{arith}
 use Rattle.packed.proofs.byte_of.Goals as goal
 use Rattle.packed.proofs.byte_of.Goals.{After-half_of-lower}
@@ -23,8 +22,3 @@ overflow_add-result c = omega (arith, halves c)
 
 pub overflow_cast-result : goal.overflow_cast-result
 overflow_cast-result c = omega (arith, halves c)
-
-pub returns : goal.returns
-returns c =
-    let a = c.args in
-    byte_halves a.size a.sign a.place c.half_of-upper.ensures c.half_of-lower.ensures

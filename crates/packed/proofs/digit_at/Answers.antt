@@ -1,18 +1,14 @@
--- `packed::digit_at` meets its contract: the digit sought is one of the number without the digits passed so far.
-use mathlib.Core.Path.{◌≡◌, sym, ap, ◌∙◌}
+-- `packed::digit_at` meets its contract: one digit more goes in a turn.
+use Rattle.std.proofs.Common.{◌≡◌, ◌∙◌, ◌/◌, ◌%◌, ap, arith}
 use Rattle.rules.specs.Packed.{digit_at}
-use Rattle.rules.proofs.Packed.{digit-last}
-use Rattle.packed.proofs.Steps.{digit-before}
-use native.Mathlib.Omega.{arith}
+use Rattle.packed.proofs.Steps.{tenth}
 use Rattle.packed.proofs.digit_at.Goals as goal
 
-pub loop-behind-preserved : goal.loop-behind-preserved
-loop-behind-preserved c =
-    let l = c.loop-behind in
-    sym (digit-before l.rest l.behind (omega arith)) ∙ l.invariant
+pub loop-preserved : goal.loop-preserved
+loop-preserved c = ap (λ n. n / 10) c.loop.invariant ∙ tenth c.args.number c.loop.counter
 
 pub returns : goal.returns
+unfolding digit_at
 returns c =
-    let l = c.loop-behind in
-    let e : 0 ≡ l.behind = omega arith in
-    sym (digit-last l.rest) ∙ ap (digit_at l.rest) e ∙ l.invariant
+    let e : c.loop.counter ≡ c.args.place = omega arith in
+    ap (λ n. n % 10) (rw e at c.loop.invariant)

@@ -1,5 +1,7 @@
 -- `queries::search_pair` meets its contract: row by row, none that has been read is beyond; it ends at the first that is, or with the last.
 use Rattle.queries.proofs.PairSearch.{rows_none, rows_before, rows-own, rows_beyond, rows_all}
+use mathlib.Core.Path.{◌≡◌}
+use lib.ListN.{length}
 use native.Mathlib.Omega.{arith}
 use Rattle.queries.proofs.search_pair.Goals as goal
 use Rattle.queries.proofs.search_pair.Goals.{then-word-first, else-word-first}
@@ -21,4 +23,5 @@ loop-read-preserved c =
 
 pub returns : goal.returns
 returns c =
-    rows_all _ _ c.requires.element c.loop-read.invariant (omega arith)
+    let e : c.loop-read.read ≡ length c.args.rows.now = omega arith in
+    rw e at (rows_all _ _ c.requires.element c.loop-read.invariant (omega arith))

@@ -1,6 +1,6 @@
 -- The records that the run has counted stand at the front of its list.
 use Prim.Native.Nat.{ℕ, ◌<◌}
-use mathlib.Core.Path.{sym, subst}
+use mathlib.Core.Path.{refl, sym, subst}
 use mathlib.Core.List.{List}
 use lib.IntN.{ℤ}
 use Rattle.rules.specs.declared.Fields.{Fields}
@@ -16,4 +16,5 @@ placed g i h = subst (λ (l : List ℤ). RecordPlaces l i) (sym g.list) (records
 
 pub show_records-requires : goal.show_records-requires
 show_records-requires c =
-    placed (c.open_and_run-settled.ensures.followed c.if-opening-eq0.true)
+    let r = rw c.in-Ok.is at c.open_and_run-ran.ensures.runs in
+    placed (r.followed refl)

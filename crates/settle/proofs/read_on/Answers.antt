@@ -1,10 +1,22 @@
 -- What is read goes behind the bytes that are there.
-use Prim.Native.Nat.{◌-◌}
-use lib.ListN.{length}
-use borrow.Rule.Slice.PartMut.{take_put}
+use mathlib.Core.Path.{refl, sym}
+use native.Mathlib.Omega.{arith}
+use Rattle.runner.proofs.StageLaws.{never}
+use Rattle.settle.proofs.Pieces.{read_behind}
 use Rattle.settle.proofs.read_on.Goals as goal
 
-pub returns-then-session : goal.returns-then-session
-returns-then-session g c =
+pub returns-else-count-eq0-clause-read : goal.returns-else-count-eq0-clause-read
+returns-else-count-eq0-clause-read g c =
     let a = c.args in
-    take_put a.session.held (length a.buffer.now - a.session.held) a.buffer.now c.read_input.new.free c.requires
+    let r = c.in-Ok.ensures in
+    record {
+      come = _;
+      read = r.bytes.0;
+      progress = refl;
+      bytes = read_behind a.session.held c.in-Ok.count _ a.buffer.now c.read_some.new.free c.requires r.bound.0;
+      held = omega (arith, r.bound.0, c.read_some.auto);
+      ended = λ e. never (sym (rw c.in-Read.is at e));
+      at_end = λ e f. never (sym f);
+      stays = λ e. never (rw c.in-Read.is at e);
+      ready = refl;
+    }

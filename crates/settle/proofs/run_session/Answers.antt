@@ -1,65 +1,52 @@
--- Each turn joins its run to those before it, and one turn less is left.
-use mathlib.Core.Path.{refl, sym, ap, ◌∙◌}
+-- Each turn joins its run to those before it.
+use Rattle.std.proofs.Common.{rules}
 use native.Mathlib.Omega.{arith}
-use Rattle.rules.specs.Lent.{given}
-use Rattle.settle.specs.declared.Session.{Session}
-use Rattle.settle.proofs.Turning.{going_first, lent_on, going_on, turn_left}
+use Rattle.settle.proofs.Turning.{going_first, going_on, over_so, settles_so, unwritten_so}
 use Rattle.settle.proofs.run_session.Goals as goal
 
-pub loop-reader-init : goal.loop-reader-init
-loop-reader-init g c =
-    (going_first _ _ _ _ c.begin_session-session.ensures c.requires.sized c.requires.buffer_len.0 c.requires.buffer_len.1, refl)
+pub loop-turn-init : goal.loop-turn-init
+loop-turn-init g c = record {
+  going = going_first _ _ _ _ _ c.begin_session-session.ensures c.requires.sized c.requires.buffer_len.0;
+  same = search rules;
+}
 
-pub read_on-input-requires : goal.read_on-input-requires
-read_on-input-requires g c = c.loop-reader.invariant.0.ready.held
+pub returns-in_err-write_out-clause-ended : goal.returns-in_err-write_out-clause-ended
+returns-in_err-write_out-clause-ended g c =
+    let l = c.loop-turn in
+    unwritten_so l._turn l.session _ _ _ _ _ _ l.invariant.going c.read_on.new.buffer c.in_ok-session.ensures.front _
+    c.in_ok-session.session
+    c.in_ok-session.ensures.read c.turn-turned.result c.turn-turned.new.store _ _ c.turn-turned.ensures.turns (omega (
+      arith,
+      c.read_on.auto,
+    )) _ _ (search rules)
 
-pub turn-turned-requires : goal.turn-turned-requires
-turn-turned-requires g c =
-    let l = c.loop-reader in
-    let t = given l.element_data l.prices l.links l.holders l.states l.readings l.blocks l.lines l.sent in
+pub returns-in-Over-clause-ended : goal.returns-in-Over-clause-ended
+returns-in-Over-clause-ended g c =
+    let l = c.loop-turn in
+    over_so l._turn l.session _ _ _ _ _ _ l.invariant.going c.read_on.new.buffer c.in_ok-session.ensures.front _ c.in_ok-session.session
+    c.in_ok-session.ensures.read c.turn-turned.result c.turn-turned.new.store _ _ c.turn-turned.ensures.turns (omega (
+      arith,
+      c.read_on.auto,
+    )) _
+    c.in_ok-write_out.ensures c.in-Over.is
+
+pub returns-in-Over-clause-settles : goal.returns-in-Over-clause-settles
+returns-in-Over-clause-settles g c =
+    let l = c.loop-turn in
+    settles_so l._turn l.session _ _ _ _ _ _ l.invariant.going c.read_on.new.buffer c.in_ok-session.ensures.front _ c.in_ok-session.session
+    c.in_ok-session.ensures.read c.turn-turned.result c.turn-turned.new.store _ _ c.turn-turned.ensures.turns (omega (
+      arith,
+      c.read_on.auto,
+    )) _
+    c.in_ok-write_out.ensures c.in-Over.is
+
+pub loop-turn-preserved : goal.loop-turn-preserved
+loop-turn-preserved g c =
+    let l = c.loop-turn in
     record {
-      lent = lent_on l.session t l.buffer c.read_on-input.new.buffer l.records l.invariant.0.ready (omega (arith, c.read_on-input.auto));
-      turns_lt_last_number = (
-        turn_left l.session (sym c.goes_on.ensures ∙ c.loop-reader-test.true),
-        omega (arith, l.invariant.1, c.requires.buffer_len.2),
-      );
-    }
-
-pub loop-reader-smaller : goal.loop-reader-smaller
-loop-reader-smaller g c =
-    let w = ap (λ (s : Session). s.turns) c.with_output-session.ensures in
-    let left = turn_left c.loop-reader.session (sym c.goes_on.ensures ∙ c.loop-reader-test.true) in
-    omega (arith, w, c.turn-turned.ensures.turns, left)
-
-pub loop-reader-preserved : goal.loop-reader-preserved
-loop-reader-preserved g c =
-    let l = c.loop-reader in
-    let t = given l.element_data l.prices l.links l.holders l.states l.readings l.blocks l.lines l.sent in
-    let z = l.invariant.0.ready.sized in
-    let k = c.turn-turned.auto in (
-      rw c.with_output-session.ensures (going_on l.session c.read_on-input.result.answer t l.buffer
-          c.read_on-input.new.buffer l.records c.turn-turned.result _ _ _ _ l.invariant.0 c.read_on-input.ensures
-          (omega (arith, c.read_on-input.auto))
-          c.turn-turned.ensures
-          (record {
-            element_data = omega (arith, k, z);
-            prices = omega (arith, k, z);
-            links = omega (arith, k, z);
-            holders = omega (arith, k, z);
-            states = omega (arith, k, z);
-            readings = omega (arith, k, z);
-            blocks = omega (arith, k, z);
-            lines = omega (arith, k, z);
-            sent = omega (arith, k, z);
-          }) (omega (arith, k)) (omega (arith, k)) c.write_out-handed.result c.write_out-handed.ensures),
-      omega (arith, k, l.invariant.1),
-    )
-
-pub returns : goal.returns
-returns g c =
-    record {
-      session = c.loop-reader.session;
-      stops = sym c.goes_on.ensures ∙ c.loop-reader-test.false;
-      followed = c.loop-reader.invariant.0.followed;
-      is = c.status.ensures;
+      going = going_on l._turn l.session _ _ _ _ _ _ l.invariant.going c.read_on.new.buffer c.in_ok-session.ensures.front _
+          c.in_ok-session.session c.in_ok-session.ensures.read c.turn-turned.result c.turn-turned.new.store _ _ c.turn-turned.ensures.turns
+          (omega (arith, c.read_on.auto)) _
+          c.in_ok-write_out.ensures c.in_default.not-Over c.turn-turned.ensures.stocked (omega (arith, c.turn-turned.auto));
+      same = search rules;
     }

@@ -1,19 +1,24 @@
 -- The questions of the book, then the message of a well-formed one.
-use mathlib.Core.Path.{refl, sym, ap, ◌∙◌}
-use Rattle.rules.specs.Answers.{number_of}
+use mathlib.Core.Path.{◌≡◌, sym, ap, ◌∙◌}
+use Rattle.std.proofs.lemmas.Result.{err_from_is_err_and}
+use Rattle.rules.specs.World.{World}
+use Rattle.rules.specs.Effects.{ask_book}
+use Rattle.rules.specs.Lent.{lent_world, open_world}
 use Rattle.rules.proofs.BookLaws.{book-whole}
-use Rattle.settlement.proofs.Stepping.{replied_refused}
-use Rattle.settlement_book.proofs.Answers.{answer-book, world_as}
+use Rattle.settlement_book.proofs.Answers.{lent-open, replied-no-book}
 use Rattle.settlement_book.proofs.message.Goals as goal
+use Rattle.settlement_book.proofs.message.Goals.{After-lent}
 
-pub returns-then-number-ne0 : goal.returns-then-number-ne0
-returns-then-number-ne0 c =
-    let a = c.check_book-asked.ensures in
-    let e = c.refused.ensures in
-    replied_refused _ _ c.args.fields _ c.args.records.now _ _
-    (answer-book _ c.args.fields _ (λ z. c.if-number-ne0.true (c.number.ensures ∙ a ∙ z)))
-    (λ z. c.if-number-ne0.true (c.number.ensures ∙ a ∙ z)) (ap number_of e.0 ∙ a) (world_as e.1) refl e.2
+-- the questions are asked of the book that is open
+lent_is : (c : After-lent) → ask_book (lent_world c.lent.result) 0 ≡ ask_book (open_world c.args.opened.now) 0
+lent_is c = ap (λ (w : World). ask_book w 0) (lent-open c.lent.result c.args.opened.now c.lent.ensures.book c.lent.ensures.lists)
+
+pub returns-in_err-check_book-clause-replied : goal.returns-in_err-check_book-clause-replied
+returns-in_err-check_book-clause-replied c =
+    let r = err_from_is_err_and c.from_residual.result c.from_residual.ensures.1 in
+    rw (r.1, r.2) (replied-no-book (open_world c.args.opened.now) c.args.fields c.in_err-check_book.field-0.0 c.args.records.now
+    (c.in_err-check_book.ensures ∙ lent_is (goal.at.returns-in_err-check_book-clause-replied c).After-lent))
 
 pub message-requires : goal.message-requires
 message-requires c =
-    (book-whole _ 0 (sym c.check_book-asked.ensures ∙ sym c.number.ensures ∙ c.if-number-ne0.false)).0
+    (book-whole _ 0 (sym (lent_is (goal.at.message-requires c).After-lent) ∙ sym c.in_ok-check_book.ensures)).0

@@ -1,40 +1,20 @@
 -- The length of the book, the questions of the book, then the query of a well-formed one.
-use mathlib.Core.Path.{refl, sym, ◌∙◌}
+use mathlib.Core.Path.{sym, ◌∙◌}
 use Rattle.rules.proofs.BookLaws.{book-whole}
+use Rattle.queries.proofs.Asks.{refused_not}
 use Rattle.settlement_book.proofs.Answers.{day_no_book, asked_as, lists_asked}
 use Rattle.settlement_book.proofs.settlement_book_day_without_holder.Goals as goal
 
-pub returns-then-book-ne-BOOK_SIZE : goal.returns-then-book-ne-BOOK_SIZE
-returns-then-book-ne-BOOK_SIZE c =
-    record {
-      answers = λ sized. absurd (c.if-book-ne-BOOK_SIZE.true sized);
-      otherwise = λ _. (c.number.ensures, refl);
-    }
+pub settlement_book_day_without_holder_within-requires-clause-whole : goal.settlement_book_day_without_holder_within-requires-clause-whole
+settlement_book_day_without_holder_within-requires-clause-whole c =
+    (lists_asked _ _ c.in-Ok.ensures, (book-whole _ 0 (sym (asked_as _ c.in-Ok.ensures c.book_of.ensures))).0)
 
-pub settlement_book_day_without_holder_within-requires : goal.settlement_book_day_without_holder_within-requires
-settlement_book_day_without_holder_within-requires c =
-    let asked = asked_as _ c.check_book-asked.ensures c.book_of.ensures in
-    record {
-      book_len = c.if-book-ne-BOOK_SIZE.false;
-      whole = (
-        lists_asked _ _ c.check_book-asked.ensures,
-        (book-whole _ 0 (sym asked ∙ sym c.number-2.ensures ∙ c.if-number-eq0.true)).0,
-      );
-    }
+pub returns-in-Ok-clause-answers : goal.returns-in-Ok-clause-answers
+returns-in-Ok-clause-answers c sized =
+    c.settlement_book_day_without_holder_within.ensures (lists_asked _ _ c.in-Ok.ensures)
+    (book-whole _ 0 (sym (asked_as _ c.in-Ok.ensures c.book_of.ensures))).0
 
-pub returns-then-number-eq0 : goal.returns-then-number-eq0
-returns-then-number-eq0 c =
-    let asked = asked_as _ c.check_book-asked.ensures c.book_of.ensures in record {
-      answers = λ _. c.settlement_book_day_without_holder_within.ensures (lists_asked _ _ c.check_book-asked.ensures)
-          (book-whole _ 0 (sym asked ∙ sym c.number-2.ensures ∙ c.if-number-eq0.true)).0;
-      otherwise = λ short. absurd (short c.if-book-ne-BOOK_SIZE.false);
-    }
-
-pub returns-else-number-eq0 : goal.returns-else-number-eq0
-returns-else-number-eq0 c =
-    record {
-      answers = λ _. day_no_book _ c.args.point _
-          (c.number-else-number-eq0.ensures ∙ asked_as _ c.check_book-asked.ensures c.book_of.ensures)
-          (λ z. c.if-number-eq0.false (c.number-2.ensures ∙ sym c.number-else-number-eq0.ensures ∙ z)) c.args.day.now;
-      otherwise = λ short. absurd (short c.if-book-ne-BOOK_SIZE.false);
-    }
+pub returns-in-Err-clause-answers : goal.returns-in-Err-clause-answers
+returns-in-Err-clause-answers c sized =
+    day_no_book _ c.args.point _ (c.number-in-Err.ensures ∙ asked_as _ c.in-Err.ensures c.book_of.ensures)
+    (λ z. refused_not c.in-Err.refusal (sym c.number-in-Err.ensures ∙ z)) c.args.day.now

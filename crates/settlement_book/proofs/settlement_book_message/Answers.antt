@@ -1,30 +1,22 @@
--- The lengths of book and message; then the reply, said in numbers: the book that it names is put in the place of the lent one.
-use mathlib.Core.Path.{refl}
+-- The lengths of book and message; then the reply, said in numbers: the book that then stands there is put in the place of the lent one.
+use mathlib.Core.Path.{subst}
+use borrow.Author.Rules.{rules}
+use Rattle.rules.specs.Lent.{Lists, given, open_lists, world_in}
+use Rattle.settlement_book.specs.Numbers.{book_in, fields_in}
+use Rattle.settlement_book.specs.Promises.{RepliesIn}
 use Rattle.settlement_book.proofs.Answers.{replies-in}
 use Rattle.settlement_book.proofs.settlement_book_message.Goals as goal
 
-pub returns-then-book-ne-BOOK_SIZE : goal.returns-then-book-ne-BOOK_SIZE
-returns-then-book-ne-BOOK_SIZE c =
-    record {
-      replies = λ sized. absurd (c.if-book-ne-BOOK_SIZE.true sized.0);
-      otherwise = λ _. (c.number.ensures, refl, refl, refl, refl);
-    }
-
-pub returns-then-fields-ne-FIELDS_SIZE : goal.returns-then-fields-ne-FIELDS_SIZE
-returns-then-fields-ne-FIELDS_SIZE c =
-    record {
-      replies = λ sized. absurd (c.if-fields-ne-FIELDS_SIZE.true sized.1);
-      otherwise = λ _. (c.number-then-fields-ne-FIELDS_SIZE.ensures, refl, refl, refl, refl);
-    }
-
-pub put_reply-requires : goal.put_reply-requires
-put_reply-requires c =
-    c.if-book-ne-BOOK_SIZE.false
-
-pub returns : goal.returns
-returns c =
-    let e = c.put_reply.ensures in record {
-      replies = λ _. replies-in _ _ c.message-reply.result c.args.records.now _ _ _ c.book_of.ensures
-          c.message-reply.ensures e.book _ c.args.count.now _ c.fields_of.ensures e.number e.count;
-      otherwise = λ short. absurd (short (c.if-book-ne-BOOK_SIZE.false, c.if-fields-ne-FIELDS_SIZE.false));
-    }
+pub returns-clause-replies : goal.returns-clause-replies
+returns-clause-replies c sized =
+    let a = c.args in
+    let o = given a.element_data.now a.prices.now a.links.now a.holders.now a.states.now a.readings.now a.blocks.now a.lines.now
+    a.sent.now in
+    let m = c.message-reply.new.opened in
+    let s = c.message-reply.ensures.same in
+    let e = c.put_reply.ensures in
+    let k = replies-in o (open_lists m) c.message-reply.result a.records.now c.message-reply.new.records a.book.now c.put_reply.new.book
+    c.book_of.ensures c.message-reply.ensures.replied e.book c.put_reply.result a.count.now c.put_reply.new.count c.fields_of.ensures
+    e.number e.count in
+    subst (λ (l : Lists). RepliesIn (world_in (book_in a.book.now) o) (world_in (book_in c.put_reply.new.book) l) (fields_in a.fields.now)
+    c.put_reply.result a.count.now c.put_reply.new.count a.records.now c.message-reply.new.records) (search rules) k

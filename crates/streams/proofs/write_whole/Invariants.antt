@@ -1,11 +1,12 @@
--- What was taken so far is the front of the text.
-use Rattle.std.proofs.Common.{length, ◌-◌, ◌≤◌, take}
+-- What was taken so far is the front of the text, and the rest is what is behind it.
+use Rattle.std.proofs.Common.{◌≡◌, ℕ, ◌≤◌, length, take, drop}
 use Rattle.std.specs.Io.KnownBytes.{Appends}
 use Rattle.streams.proofs.write_whole.Given as goal
 
-abbrev pub invariant-loop-done : goal.invariant-loop-done
-invariant-loop-done g l = (l.done ≤ length l.text)
-    × Appends (g.W.Write.contents l.initial.output) (g.W.Write.contents l.output) (take l.done l.text)
+abbrev pub invariant-loop-rest : goal.invariant-loop-rest
+invariant-loop-rest g l =
+    (done : ℕ) × (done ≤ length l.text) × (l.rest ≡ drop done l.text)
+    × Appends (g.W.Write.contents l.initial.output) (g.W.Write.contents l.output) (take done l.text)
 
-abbrev pub decreases-loop-done : goal.decreases-loop-done
-decreases-loop-done g l = length l.text - l.done
+abbrev pub decreases-loop-rest : goal.decreases-loop-rest
+decreases-loop-rest g l = length l.rest

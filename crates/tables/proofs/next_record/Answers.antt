@@ -1,47 +1,29 @@
--- `tables::next_record` meets its contract: the first row behind that day is the next of the point, or none is.
-use Prim.Native.Nat.{◌+◌}
-use mathlib.Core.Path.{◌≡◌}
-use mathlib.Core.Bool.{true, false}
-use lib.Dec.{eqb}
-use lib.ListN.{take}
-use native.Mathlib.Omega.{arith}
-use Rattle.rules.proofs.Tests.{tests}
-use Rattle.rules.specs.Rows.{pack_value, value_point}
-use Rattle.tables.specs.Search.{row_from}
-use Rattle.tables.proofs.Order.{value-order}
+-- `tables::next_record` meets its contract: the first row from the next day on is the next of the point, or none is.
+use Rattle.std.proofs.Common.{◌∙◌, sym}
+use borrow.Author.Tests.{eq-eqb, ne_eqb}
+use Rattle.tables.proofs.Order.{values_rising}
 use Rattle.tables.proofs.Values.{next_found}
 use Rattle.tables.proofs.next_record.Goals as goal
-use Rattle.tables.proofs.next_record.Goals.{After-row_from-word, Start}
 
-pub row_from-word-requires : goal.row_from-word-requires
-row_from-word-requires c = let s = (goal.at.row_from-word-requires c).Start in value-order s.requires.point_fits.some s.requires.value_rows
+pub row_from-requires : goal.row_from-requires
+row_from-requires c = values_rising c.args.size c.requires.point_fits.some c.requires.dated_rows
 
--- the row, of the word of the next day
-abbrev start : After-row_from-word → Start
-start c = search
+pub returns-in-Some : goal.returns-in-Some
+returns-in-Some c =
+    let a = c.args in
+    let row = rw c.pack_value.ensures at c.in-Some.ensures in
+    let t = eq-eqb _ _ (sym c.value_point_of.ensures ∙ c.if-value_point_of-point.true) in
+    c.min.ensures ∙ rw (next_found a.size a.point a.day c.requires.point_fits c.requires.dated_rows, ← row, t, c.value_first_of.ensures)
 
-found : (c : After-row_from-word) →
-    let a = (start c).args in
-    c.row_from-word.result ≡ row_from (pack_value a.size a.point (a.day + 1) 0) (take a.used a.table.now)
-found c = rw c.pack_value.ensures at c.row_from-word.ensures
+pub returns-in_default : goal.returns-in_default
+returns-in_default c =
+    let a = c.args in
+    let row = rw c.pack_value.ensures at c.in-Some.ensures in
+    let t = ne_eqb _ _ (λ e. c.if-value_point_of-point.false (c.value_point_of.ensures ∙ e)) in
+    rw (next_found a.size a.point a.day c.requires.point_fits c.requires.dated_rows, ← row, t)
 
-pub returns-then-first-lt-END_OF_DAYS : goal.returns-then-first-lt-END_OF_DAYS
-returns-then-first-lt-END_OF_DAYS c =
-    let row = (goal.at.returns-then-first-lt-END_OF_DAYS c).After-row_from-word in let s = start row in
-    let a = s.args in
-    let t : eqb (value_point a.size row.row_from-word.result) a.point ≡ true = omega (arith, tests) in
-    rw (next_found a.size a.point a.day s.requires.point_fits s.requires.value_rows _ (found row), t) (omega arith)
-
-pub returns-then-value_point_of-point : goal.returns-then-value_point_of-point
-returns-then-value_point_of-point c =
-    let row = (goal.at.returns-then-value_point_of-point c).After-row_from-word in let s = start row in
-    let a = s.args in
-    let t : eqb (value_point a.size row.row_from-word.result) a.point ≡ true = omega (arith, tests) in
-    rw (next_found a.size a.point a.day s.requires.point_fits s.requires.value_rows _ (found row), t) (omega arith)
-
-pub returns : goal.returns
-returns c =
-    let row = (goal.at.returns c).After-row_from-word in let s = start row in
-    let a = s.args in
-    let t : eqb (value_point a.size row.row_from-word.result) a.point ≡ false = omega (arith, tests) in
-    rw (next_found a.size a.point a.day s.requires.point_fits s.requires.value_rows _ (found row), t)
+pub returns-in_default-2 : goal.returns-in_default-2
+returns-in_default-2 c =
+    let a = c.args in
+    let none = rw c.pack_value.ensures at c.in_default.ensures in
+    rw (next_found a.size a.point a.day c.requires.point_fits c.requires.dated_rows, ← none)

@@ -1,50 +1,33 @@
 -- `tables::value_on` meets its contract: the last row by the day is in force, if it is of the point.
-use Prim.Native.Nat.{◌+◌, ◌-◌}
-use mathlib.Core.Path.{◌≡◌, sym}
-use mathlib.Core.Bool.{true, false}
-use lib.Dec.{eqb}
-use lib.ListN.{get_or}
-use native.Mathlib.Omega.{arith}
-use Rattle.rules.proofs.Tests.{tests}
-use Rattle.rules.specs.Rows.{pack_value, value_point}
-use Rattle.tables.specs.Search.{RowPlace}
-use Rattle.tables.proofs.Order.{value-order}
-use Rattle.tables.proofs.Values.{value_missed, value_found}
+use Rattle.std.proofs.Common.{◌≡◌, ◌-◌, ◌∙◌, sym, take, length, slice_get, None, arith, rules}
+use borrow.Author.Tests.{eq-eqb, ne_eqb}
+use Rattle.tables.proofs.Order.{values_rising}
+use Rattle.tables.proofs.Values.{value_found}
 use Rattle.tables.proofs.value_on.Goals as goal
-use Rattle.tables.proofs.value_on.Goals.{After-place-at, Start}
+use Rattle.tables.proofs.value_on.Goals.{After-place-after}
 
-pub place-at-requires : goal.place-at-requires
-place-at-requires c = let s = (goal.at.place-at-requires c).Start in value-order s.requires.point_fits.some s.requires.value_rows
+pub place-after-requires : goal.place-after-requires
+place-after-requires c = values_rising c.args.size c.requires.point_fits.some c.requires.dated_rows
 
--- the place, of the word of the next day
-abbrev start : After-place-at → Start
-start c = search
+pub returns-in-Some : goal.returns-in-Some
+returns-in-Some c =
+    let a = c.args in
+    let after = rw c.pack_value.ensures at c.place-after.ensures.is in
+    let t = eq-eqb _ _ (sym c.value_point_of.ensures ∙ c.if-value_point_of-point.true) in
+    rw (value_found a.size a.point c.requires.point_fits a.day (omega arith) c.requires.dated_rows _ after, ← c.in-Some.ensures.value, t)
+    c.value_of.ensures
 
-found : (c : After-place-at) →
-    let a = (start c).args in RowPlace a.table.now a.used (pack_value a.size a.point (a.day + 1) 0) c.place-at.result
-found c = rw c.pack_value.ensures at c.place-at.ensures
+pub returns-in_default : goal.returns-in_default
+returns-in_default c =
+    let a = c.args in
+    let after = rw c.pack_value.ensures at c.place-after.ensures.is in
+    let t = ne_eqb _ _ (λ e. c.if-value_point_of-point.false (c.value_point_of.ensures ∙ e)) in
+    rw (value_found a.size a.point c.requires.point_fits a.day (omega arith) c.requires.dated_rows _ after, ← c.in-Some.ensures.value, t)
 
-pub returns-then-at-eq0 : goal.returns-then-at-eq0
-returns-then-at-eq0 c =
-    let s = start (goal.at.returns-then-at-eq0 c).After-place-at in
-    let a = s.args in
-    sym (value_missed a.size a.point s.requires.point_fits a.day (omega arith) s.requires.value_rows
-    (found (goal.at.returns-then-at-eq0 c).After-place-at) c.if-at-eq0.true)
-
-pub returns-then-value_point_of-point : goal.returns-then-value_point_of-point
-returns-then-value_point_of-point c =
-    let placed = (goal.at.returns-then-value_point_of-point c).After-place-at in let s = start placed in
-    let a = s.args in
-    let w = get_or a.table.now (placed.place-at.result - 1) 0 in
-    let t : eqb (value_point a.size w) a.point ≡ true = omega (arith, tests) in
-    let last = value_found a.size a.point s.requires.point_fits a.day (omega arith) s.requires.value_rows (found placed) (omega arith) in
-    rw (last, t, c.value_of.ensures)
-
-pub returns : goal.returns
-returns c =
-    let placed = (goal.at.returns c).After-place-at in let s = start placed in
-    let a = s.args in
-    let w = get_or a.table.now (placed.place-at.result - 1) 0 in
-    let t : eqb (value_point a.size w) a.point ≡ false = omega (arith, tests) in
-    let last = value_found a.size a.point s.requires.point_fits a.day (omega arith) s.requires.value_rows (found placed) (omega arith) in
-    rw (last, t)
+pub returns-in_default-2 : goal.returns-in_default-2
+returns-in_default-2 c =
+    let a = c.args in
+    let after = rw c.pack_value.ensures at c.place-after.ensures.is in
+    let rows = take c.place-after.result a.rows.now in
+    let none : slice_get rows (length rows - 1) ≡ None = search rules in
+    rw (value_found a.size a.point c.requires.point_fits a.day (omega arith) c.requires.dated_rows _ after, none)

@@ -1,22 +1,11 @@
--- `read_element` meets its contract: the first three bytes of the value are three bytes of the slice, and the prices are those of the
--- value.
-use Rattle.rules.specs.Sizes.{element_size}
-use Rattle.file.specs.Element.{element_bytes, element_prices}
-use native.Mathlib.Nat.{add-sub_cancel_left}
-use lib.Seq.{take-take}
-use Prim.Native.Nat.{◌*◌}
-use mathlib.Core.Path.{sym, ap, ◌∙◌}
-use lib.ListN.{take, drop}
+-- `read_element` meets its contract: the prices, of which there are 24, stand in their places of the table.
+use Rattle.std.proofs.Common.{arith}
+use Rattle.std.proofs.lemmas.Grind.{common_steps}
 use Rattle.file.specs.Bytes.{placed}
+use Rattle.file.specs.Element.{element_prices}
+use Rattle.file.proofs.ElementLaws.{length_prices}
 use Rattle.file.proofs.fields.read_element.Goals as goal
 
-pub returns : goal.returns
-unfolding element_bytes element_prices
-returns c =
-    let a = c.args in
-    let value = drop a.at a.s.now in
-    let first = ap (λ k. take k value) (add-sub_cancel_left a.at element_size)
-    ∙ sym (take-take element_size a.size value c.requires.head) in record {
-      described = c.put_bytes.ensures.is ∙ ap (λ t. placed a.element_data.now (a.e * element_size) t) first;
-      priced = c.put_prices.ensures;
-    }
+pub returns-clause-priced : goal.returns-clause-priced
+unfolding element_prices placed
+returns-clause-priced c = grind (arith, common_steps, length_prices)

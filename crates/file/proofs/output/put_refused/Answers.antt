@@ -1,11 +1,11 @@
--- `put_refused` meets its contract: its texts stand one behind the other, and have room.
-use Rattle.file.proofs.PlacedLaws.{joined, loosened}
+-- `put_refused` meets its contract: its texts stand one behind the other.
+use Rattle.std.proofs.Common.{arith}
 use Rattle.file.specs.Lines.{refused_line}
-use native.Mathlib.Omega.{arith}
+use Rattle.file.proofs.TextLaws.{puts_then, lent_back}
 use Rattle.file.proofs.output.put_refused.Goals as goal
 
 pub returns : goal.returns
 unfolding refused_line
 returns c =
-    let a = joined c.put_bytes-word.ensures c.put_number_then-next.ensures (omega arith) in
-    loosened (omega arith) (joined a c.put_number_then.ensures (omega arith))
+    let a = puts_then c.bytes.ensures c.number_then.ensures in
+    lent_back (puts_then a c.number_then-2.ensures) (omega arith) search

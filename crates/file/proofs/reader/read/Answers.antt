@@ -5,4 +5,4 @@ use Rattle.file.proofs.reader.read.Goals as goal
 pub behind-requires : goal.behind-requires
 behind-requires c =
     let a = c.args in
-    rw (c.field-found.ensures, c.reader_at-r.ensures.0, c.reader_at-r.ensures.1) (inside-at a.bytes.now a.at a.phase a.ended c.requires).0
+    rw (c.field-found.ensures, c.new-reader.ensures.0, c.new-reader.ensures.1) (inside-at a.bytes.now a.at a.phase a.ended c.requires).0

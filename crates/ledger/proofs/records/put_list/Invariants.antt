@@ -1,11 +1,8 @@
 -- After `i` records these stand at the front of the list, and the rest of it is as it was lent.
-use Rattle.std.proofs.Common.{◌≡◌, ◌≤◌, ◌-◌}
+use Rattle.std.proofs.Common.{◌≡◌}
 use Rattle.rules.proofs.ListFronts.{front}
 use Rattle.ledger.specs.RecordNumbers.{record_at}
 use Rattle.ledger.proofs.records.put_list.Given as goal
 
 abbrev pub invariant-loop-i : goal.invariant-loop-i
-invariant-loop-i l = (l.i ≤ l.count) × (l.list ≡ front (record_at l.numbers) l.i l.initial.list)
-
-abbrev pub decreases-loop-i : goal.decreases-loop-i
-decreases-loop-i l = l.count - l.i
+invariant-loop-i l = l.list ≡ front (record_at l.numbers) l.i l.initial.list

@@ -1,6 +1,5 @@
 -- The lines before `k` are copied, and the records of those that had moved stand at the front of the list.
-use mathlib.Core.Path.{◌≡◌}
-use Prim.Native.Nat.{◌-◌, ◌*◌, ◌≤◌}
+use Rattle.std.proofs.Common.{◌≡◌, ◌*◌}
 use lib.Seq.{paste}
 use Rattle.ledger.specs.Moved.{line_records, moved_count}
 use Rattle.ledger.specs.RecordNumbers.{numbers_after}
@@ -9,8 +8,8 @@ use Rattle.ledger.proofs.rounds.send_lines.Given as goal
 
 abbrev pub invariant-loop-k : goal.invariant-loop-k
 invariant-loop-k l =
-    (l.k ≤ l.count) × (l.sent ≡ paste l.initial.sent 0 l.lines (l.k * line_size)) × (l.n ≡ moved_count l.lines l.initial.sent l.k)
-    × (l.records ≡ numbers_after (line_records l.book l.lines l.initial.sent l.k) l.initial.records)
-
-abbrev pub decreases-loop-k : goal.decreases-loop-k
-decreases-loop-k l = l.count - l.k
+    record {
+      sent : l.sent ≡ paste l.initial.sent 0 l.lines (l.k * line_size);
+      places : l.n ≡ moved_count l.lines l.initial.sent l.k;
+      records : l.records ≡ numbers_after (line_records l.book l.lines l.initial.sent l.k) l.initial.records;
+    }

@@ -5,14 +5,10 @@ use lib.Seq.{length-take-le}
 use mathlib.Core.Path.{sym}
 use Rattle.recording.proofs.messages.write_period.Goals as goal
 
-pub insert-requires : goal.insert-requires
-insert-requires c =
+pub insert-requires-clause-ordered_rows : goal.insert-requires-clause-ordered_rows
+insert-requires-clause-ordered_rows c =
     let rows = c.requires.link_rows.0 in
-    record {
-      clear_behind = c.requires.link_rows.1;
-      ordered_rows = record { fits = rows.fits; order = run_rising rows.run };
-      used_lt_places = c.requires.link_rows.2;
-    }
+    record { fits = rows.fits; order = run_rising rows.run }
 
 pub returns : goal.returns
 returns c =

@@ -1,41 +1,42 @@
--- An element, whose value lies within the bytes, or a field that is not in its place.
-use Prim.Native.Nat.{◌+◌}
-use native.Mathlib.Omega.{arith}
-use mathlib.Core.Path.{ap, ◌∙◌}
-use Rattle.file.specs.declared.fields.Found.{Found}
-use Rattle.file.specs.Field.{field_size}
-use Rattle.rules.specs.Lent.{lend_elements}
-use Rattle.runner.specs.declared.Advanced.{Advanced}
-use Rattle.runner.proofs.FoundLaws.{elements_else, element-inside}
-use Rattle.runner.proofs.ArmLaws.{arm_element}
+-- An element, whose value lies within the bytes; what opens the book; or a field that is not in its place.
+use mathlib.Core.Path.{refl}
+use Rattle.runner.specs.Stages.{elements, is_more, move_on}
+use Rattle.runner.specs.Parts.{lists_in}
+use Rattle.runner.proofs.FoundLaws.{not_more, elements_else}
+use Rattle.runner.proofs.ArmLaws.{place_is, value_inside, waits, takes, arm_element}
 use Rattle.runner.proofs.fields.gather.Goals as goal
 
-pub returns-in_default : goal.returns-in_default
-returns-in_default c =
-    let a = c.args in
-    let p = c.requires.inside in record {
-      advances = λ h values o v. rw (elements_else a.at a.s.now h values a.found c.in_default.not-Element p.1 p.2)
-          (c.refuse.ensures.advances _);
-      done = c.refuse.ensures.done;
-    }
+pub take_element-book-requires-clause-size_in_bounds : goal.take_element-book-requires-clause-size_in_bounds
+take_element-book-requires-clause-size_in_bounds c =
+    value_inside _ _ _ _ _ c.read-found.ensures c.requires.bounds.0 _ c.in-Element.is
 
-pub take_element-after-requires : goal.take_element-after-requires
-take_element-after-requires c =
-    record {
-      size_in_bounds = element-inside _ _ _ c.args.found c.in-Element.is c.requires.inside.0;
-      element_data_len = c.requires.element_data_len;
-    }
+pub returns-in-More-clause-steps : goal.returns-in-More-clause-steps
+unfolding is_more
+returns-in-More-clause-steps c h values v =
+    waits (elements h values) _ _ _ _ c.read-found.ensures (lists_in c.args.store.now) _ c.args.from _ c.in-More.is refl
 
-pub overflow_add-at : goal.overflow_add-at
-overflow_add-at c =
-    let i = element-inside _ _ _ c.args.found c.in-Element.is c.requires.inside.0 in
-    record { fits = omega (arith, i.0) }
+pub returns-in-Element-clause-steps : goal.returns-in-Element-clause-steps
+unfolding is_more
+returns-in-Element-clause-steps c h values v =
+    let l = c.read-found in
+    takes (elements h values) _ _ _ _ l.ensures (lists_in c.args.store.now) _ _ _ c.in-Element.is refl
+    (arm_element _ _ _ _ h values _ _ _ _ (c.take_element-book.ensures h values v) (place_is _ _ _ _ _ l.ensures _ c.in-Element.is))
 
-pub returns : goal.returns
-returns c =
-    let a = c.args in record {
-      advances = λ h values o v. rw c.in-Element.is
-          (arm_element a.at _ _ a.s.now h values (lend_elements _ _ o) _ _ _ _ (c.take_element-after.ensures h values v)
-          (c.requires.longest_line_in_bounds.1 ∙ ap (λ (f : Found). a.at + field_size f) c.in-Element.is) c.moved.ensures);
-      done = ap (λ (r : Advanced). r.more) c.moved.ensures;
-    }
+pub returns-in-Message-clause-steps : goal.returns-in-Message-clause-steps
+unfolding is_more move_on
+returns-in-Message-clause-steps c h values v =
+    takes (elements h values) _ _ _ _ c.read-found.ensures (lists_in c.args.store.now) _ _ _ c.in-Message.is refl
+    (c.open_book.ensures.advances h values v)
+
+pub returns-in-End-clause-steps : goal.returns-in-End-clause-steps
+unfolding is_more move_on
+returns-in-End-clause-steps c h values v =
+    takes (elements h values) _ _ _ _ c.read-found.ensures (lists_in c.args.store.now) _ _ _ c.in-End.is refl
+    (c.open_book-in-End.ensures.advances h values v)
+
+pub returns-in_default-clause-steps : goal.returns-in_default-clause-steps
+returns-in_default-clause-steps c h values v =
+    let d = c.in_default in
+    let t = lists_in c.args.store.now in
+    takes (elements h values) _ _ _ _ c.read-found.ensures t _ _ _ refl (not_more _ d.not-More)
+    (rw (elements_else _ _ h values _ d.not-More d.not-Element d.not-Message d.not-End) (c.refuse.ensures t))

@@ -1,11 +1,6 @@
--- `refuse` meets its contract: the refusal is printed, and the run is over.
-use mathlib.Core.Path.{ap}
-use Rattle.runner.specs.declared.Advanced.{Advanced}
+-- The refusal is printed, and the run is over.
 use Rattle.runner.proofs.ArmLaws.{arm_broken}
 use Rattle.runner.proofs.fields.refuse.Goals as goal
 
 pub returns : goal.returns
-returns c = record {
-  advances = λ t. arm_broken _ _ _ t _ _ _ _ _ c.put_refused-written.ensures c.moved.ensures;
-  done = ap (λ (r : Advanced). r.more) c.moved.ensures;
-}
+returns c t = rw (← c.number.ensures) (arm_broken _ _ t _ _ _ _ c.put_refused-written.ensures)

@@ -4,6 +4,7 @@ use Prim.Native.Nat.{◌*◌}
 use lib.Seq.{length-take-le}
 use Rattle.rules.specs.Sizes.{element_size, price_places}
 use Rattle.rules.specs.Lent.{lend_elements}
+use Rattle.rules.specs.Effects.{ask}
 use Rattle.runner.specs.Parts.{ends_of, cut_to}
 use Rattle.runner.proofs.PartLaws.{elements-asked}
 use native.Mathlib.Omega.{arith}
@@ -21,8 +22,8 @@ slice_bounds-elements_right-end-2 c =
     let f = c.requires.fitted.elements in
     sym (length-take-le (c.args.book.elements * price_places) c.args.prices.now (omega arith))
 
-pub elements_right-requires : goal.elements_right-requires
-elements_right-requires c =
+pub elements_right-right-requires : goal.elements_right-right-requires
+elements_right-right-requires c =
     let z = c.requires.element_data_len in
     let f = c.requires.fitted.elements in
     let a = c.args in record {
@@ -31,16 +32,9 @@ elements_right-requires c =
       priced = length-take-le (a.book.elements * price_places) a.prices.now (omega arith);
     }
 
-pub returns-then-elements_right : goal.returns-then-elements_right
-unfolding ends_of
-returns-then-elements_right c o =
+pub returns : goal.returns
+unfolding ends_of ask
+returns c o =
     let t = lend_elements c.args.element_data.now c.args.prices.now o in
     let e = ends_of c.args.book in
-    elements-asked c.args.book t e refl _ (sym (c.elements_right.ensures (cut_to e t)) ∙ c.if-elements_right.true)
-
-pub returns-else-elements_right : goal.returns-else-elements_right
-unfolding ends_of
-returns-else-elements_right c o =
-    let t = lend_elements c.args.element_data.now c.args.prices.now o in
-    let e = ends_of c.args.book in
-    elements-asked c.args.book t e refl _ (sym (c.elements_right.ensures (cut_to e t)) ∙ c.if-elements_right.false)
+    c.ask.ensures ∙ elements-asked c.args.book t e refl _ (sym (c.elements_right-right.ensures (cut_to e t)))

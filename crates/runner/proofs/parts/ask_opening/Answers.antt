@@ -7,6 +7,8 @@ use Rattle.runner.proofs.OpenLaws.{unlimited, too_many-points, asked-elements}
 use native.Mathlib.Omega.{arith}
 use Rattle.runner.proofs.parts.ask_opening.Goals as goal
 use Rattle.runner.proofs.parts.ask_opening.Goals.{Start}
+use Rattle.runner.proofs.parts.ask_opening.Goals.{else-is_limited-via-then-is_limited+else-book-le-SETTLE_POINTS}
+use Rattle.runner.proofs.parts.ask_opening.Goals.{else-is_limited-via-else-is_limited}
 
 -- what is lent, and any other tables
 abbrev lent : Start → Lists → Lists
@@ -30,10 +32,10 @@ returns-then-book-le-SETTLE_POINTS c o =
     let z = c.requires in
     c.ask_elements.ensures o ∙ sym (asked-elements b t g (omega arith) (omega arith) w)
 
-pub returns-else-book-le-SETTLE_POINTS : goal.returns-else-book-le-SETTLE_POINTS
-returns-else-book-le-SETTLE_POINTS c o = sym (too_many-points _ c.if-book-le-SETTLE_POINTS.false)
-
 pub returns-else-is_limited : goal.returns-else-is_limited
 returns-else-is_limited c o =
     let t = fronts c.args.book (lent (goal.at.returns-else-is_limited c).Start o) in
-    sym (unlimited _ (sym (c.is_limited.ensures t) ∙ c.if-is_limited.false))
+    elim c.else-is_limited.branch [
+      | else-is_limited-via-then-is_limited+else-book-le-SETTLE_POINTS w ↦ sym (too_many-points _ w.if-book-le-SETTLE_POINTS.false)
+      | else-is_limited-via-else-is_limited w ↦ sym (unlimited _ (sym (c.is_limited.ensures t) ∙ w.if-is_limited.false))
+    ]

@@ -1,79 +1,52 @@
 -- Questions 2, 3 and 4 in order; each finds what those before it passed.
-use mathlib.Core.Path.{◌≡◌, sym, ◌∙◌}
-use Rattle.rules.specs.World.{World}
-use Rattle.rules.specs.WellFormed.{within_limits, rows_fit, question2, question4}
+use Rattle.std.proofs.Common.{arith, ◌≡◌, sym, ◌∙◌}
+use Rattle.std.proofs.lemmas.Grind.{common_steps}
+use mathlib.Core.Bool.{true}
+use Rattle.rules.specs.WellFormed.{question2, question4}
 use Rattle.rules.specs.Effects.{ask}
 use Rattle.rules.specs.Opening.{opening_answer}
-use Rattle.rules.specs.Lent.{Lists, world_in, opening_in, tables_in, lend_elements, no_lists}
-use Rattle.rules.proofs.Tests.{two_are, both}
+use Rattle.rules.specs.Lent.{lists_of, lent_world}
+use Rattle.rules.proofs.Passed.{asked_passed}
 use Rattle.rules.proofs.Parts.{lengths_asked}
-use Rattle.settlement_book.proofs.Measures.{limits-any}
+use Rattle.validation.proofs.Next.{refuses}
+use Rattle.settlement_book.proofs.Measures.{limited}
 use Rattle.settlement_book.proofs.questions.check_opening.Goals as goal
-use Rattle.settlement_book.proofs.questions.check_opening.Goals.{After-both_hold, Start}
+use Rattle.settlement_book.proofs.questions.check_opening.Goals.{In_ok-ask, In_ok-ask-2}
 
--- what is lent, and any other tables
-abbrev lent : Start → Lists → Lists
-lent s o = lend_elements s.args.element_data.now s.args.prices.now o
+-- question 2 has passed
+first : (c : In_ok-ask) → question2 (lent_world c.args.lent.now) ≡ true
+first c =
+    sym (c.is_within_limits.ensures (lists_of c.args.lent.now))
+    ∙ (asked_passed c.is_within_limits.result 2 0 0 (λ z. omega arith) (sym c.in_ok-ask.ensures)).0
 
-abbrev world : Start → Lists → World
-world s o = world_in s.args.book (lent s o)
-
--- the first test is question 2
-limited : (c : After-both_hold) (o : Lists) →
-    let t = lend_elements c.args.element_data.now c.args.prices.now o in
-    c.both_hold.result ≡ question2 (world_in c.args.book t)
-unfolding question2
-limited c o =
-    let t = lend_elements c.args.element_data.now c.args.prices.now o in
-    two_are c.both_hold.ensures (c.is_limited.ensures t) (c.rows_fit.ensures t)
+pub returns-in_err-ask : goal.returns-in_err-ask
+unfolding ask opening_answer
+returns-in_err-ask c =
+    let e = c.in_err-ask.ensures in
+    let q = c.is_within_limits.ensures (lists_of c.args.lent.now) in
+    let r = refuses c.in_err-ask.field-0.0 in
+    grind (arith, common_steps)
 
 pub is_sized-requires : goal.is_sized-requires
-unfolding question2
-is_sized-requires c =
-    let t = lent (goal.at.is_sized-requires c).Start no_lists in
-    limits-any c.args.book t
-    (both (within_limits (opening_in c.args.book t)) (rows_fit (tables_in c.args.book t))
-    (sym (limited (goal.at.is_sized-requires c).After-both_hold no_lists) ∙ c.if-both_hold.true)).0
+is_sized-requires c = limited c.args.lent.now (first (goal.at.is_sized-requires c).In_ok-ask)
 
-pub elements_right-requires : goal.elements_right-requires
-elements_right-requires c =
-    let o = c.requires.0 in
-    let n = lengths_asked (world (goal.at.elements_right-requires c).Start o)
-    (sym (limited (goal.at.elements_right-requires c).After-both_hold o) ∙ c.if-both_hold.true)
-    (sym (c.is_sized.ensures (lent (goal.at.elements_right-requires c).Start o) c.requires.1) ∙ c.if-is_sized.true) in
-    record {
-      few = n.limited.elements;
-      described = n.element_data;
-      priced = n.prices;
-    }
+pub returns-in_err-ask-2 : goal.returns-in_err-ask-2
+unfolding ask opening_answer
+returns-in_err-ask-2 c =
+    let e = c.in_err-ask-2.ensures in
+    let q = c.is_within_limits.ensures (lists_of c.args.lent.now) in
+    let r = refuses c.in_err-ask-2.field-0.0 in
+    grind (arith, common_steps)
 
-pub returns-then-elements_right : goal.returns-then-elements_right
-unfolding opening_answer ask question4
-returns-then-elements_right c o e =
-    rw (
-      sym (limited (goal.at.returns-then-elements_right c).After-both_hold o) ∙ c.if-both_hold.true,
-      sym (c.is_sized.ensures (lent (goal.at.returns-then-elements_right c).Start o) e) ∙ c.if-is_sized.true,
-      sym (c.elements_right.ensures o) ∙ c.if-elements_right.true,
-    )
+pub elements_right-right-requires : goal.elements_right-right-requires
+elements_right-right-requires c =
+    let n = lengths_asked (lent_world c.args.lent.now) (first (goal.at.elements_right-right-requires c).In_ok-ask)
+    (sym c.is_sized.ensures ∙ (asked_passed c.is_sized.result 3 0 0 (λ z. omega arith) (sym c.in_ok-ask-2.ensures)).0) in
+    record { few = n.limited.elements; described = n.element_data; priced = n.prices }
 
-pub returns-else-elements_right : goal.returns-else-elements_right
-unfolding opening_answer ask question4
-returns-else-elements_right c o e =
-    rw (
-      sym (limited (goal.at.returns-else-elements_right c).After-both_hold o) ∙ c.if-both_hold.true,
-      sym (c.is_sized.ensures (lent (goal.at.returns-else-elements_right c).Start o) e) ∙ c.if-is_sized.true,
-      sym (c.elements_right.ensures o) ∙ c.if-elements_right.false,
-    )
-
-pub returns-else-is_sized : goal.returns-else-is_sized
-unfolding opening_answer ask question4
-returns-else-is_sized c o e =
-    rw (
-      sym (limited (goal.at.returns-else-is_sized c).After-both_hold o)
-          ∙ c.if-both_hold.true,
-      sym (c.is_sized.ensures (lent (goal.at.returns-else-is_sized c).Start o) e) ∙ c.if-is_sized.false,
-    )
-
-pub returns-else-both_hold : goal.returns-else-both_hold
-unfolding opening_answer ask question4
-returns-else-both_hold c o e = rw (sym (limited (goal.at.returns-else-both_hold c).After-both_hold o) ∙ c.if-both_hold.false)
+pub returns : goal.returns
+unfolding ask opening_answer question4
+returns c =
+    let q = c.is_within_limits.ensures (lists_of c.args.lent.now) in
+    let k = c.elements_right-right.ensures (lists_of c.args.lent.now) in
+    grind (arith, common_steps)

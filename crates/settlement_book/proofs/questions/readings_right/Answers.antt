@@ -1,27 +1,14 @@
--- Every reading passed so far is right, and one that is not answers.
-use mathlib.Core.Path.{sym}
-use borrow.Author.Tests.{le-leb, lt-leb}
-use lib.Dec.{leb}
-use lib.ListN.{get_or}
-use Rattle.rules.proofs.Ranges.{one_more}
-use Rattle.tables.proofs.Right.{in_all, in_not}
-use native.Mathlib.Omega.{arith}
+-- `readings_right` meets its contract: what the chain finds of the readings is what the rules ask of them.
+use Rattle.std.proofs.Common.{ℕ, rules, ◌∙◌, sym, leb}
+use Rattle.std.proofs.lemmas.Iterator.{YieldsList-from_slice}
+use Rattle.std.proofs.lemmas.Iterator.Search.{all_from_yields_List}
+use Rattle.rules.specs.Sizes.{most_energy}
+use Rattle.rules.proofs.Chains.{all_in-list}
+use Rattle.rules.proofs.Tests.{tests}
 use Rattle.settlement_book.proofs.questions.readings_right.Goals as goal
 
-pub loop-i-init : goal.loop-i-init
-loop-i-init c = (omega arith, (λ k h. absurd (omega arith)))
-
-pub loop-i-preserved : goal.loop-i-preserved
-loop-i-preserved c = (
-  omega arith,
-  one_more (λ k. leb (get_or c.args.readings.now k 0) 9999999) c.loop-i.i
-      c.loop-i.invariant.1 (le-leb _ _ c.if-readings-i.true),
-)
-
-pub returns-else-readings-i : goal.returns-else-readings-i
-returns-else-readings-i c =
-    sym (in_not (λ x. leb x 9999999) c.args.readings.now c.loop-i.i (omega arith)
-    (lt-leb _ _ c.if-readings-i.false))
-
 pub returns : goal.returns
-returns c = sym (in_all (λ x. leb x 9999999) c.args.readings.now (λ k h. c.loop-i.invariant.1 k (omega arith)))
+returns c =
+    let f = λ (x : ℕ). leb x most_energy in
+    all_from_yields_List f _ _ _ c.all.ensures.ran (YieldsList-from_slice c.args.readings.now cc) (λ x b q k. search (rules, tests))
+    ∙ sym (all_in-list f c.args.readings.now)
