@@ -22,7 +22,8 @@ use Rattle.tables.proofs.Right.{whole-rows}
 use Rattle.posting.specs.Fits.{Room, before_message}
 use Rattle.posting.specs.Kinds.{change_at}
 use Rattle.posting.specs.Moved.{charge_in, no_charge}
-use Rattle.posting.specs.Posted.{Posted, PostedBoth, Postable}
+use Rattle.posting.specs.Posted.{Posted, PostedBoth, Postable, charging}
+use Rattle.posting.proofs.Posted.{postable_charging}
 use Rattle.posting.proofs.Sizes.{change_small}
 use Rattle.posting.proofs.WholeBook.{whole-book}
 use Rattle.recording.specs.Recorded.{recorded_in}
@@ -44,6 +45,11 @@ postable b o body r =
       holders = rows.holders;
       states = rows.states;
     }
+
+-- the same as what is lent of a book asks it
+pub postable_in : (b : Book) (o : Lists) (body : Body) → ReadyIn (world_in b o) body
+    → Postable (opening_in b o) (charging (tables_in b o)) body
+postable_in b o body r = postable_charging (opening_in b o) (tables_in b o) body (postable b o body r)
 
 -- ---- changes that begin at 0
 

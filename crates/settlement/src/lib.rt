@@ -49,12 +49,13 @@ fn apply_lines(opened: &mut OpenBook, body: Body) -> Result<(), Refusal>
     ensures same { SameLent opened.old opened.new }
     ensures applied { Applied (open_world opened.old) (open_world opened.new) body (number_of result) }
 {
-    let lent = opened.lent();
-    let ends = link_ends(&lent, body);
+    // first of all: behind other work the compiler would clear them twice
     let mut changes = [Charge {
         quantity: 0,
         amount: 0,
     }; MOST_LINES];
+    let lent = opened.lent();
+    let ends = link_ends(&lent, body);
     post(&mut changes, &lent, body, ends);
     if !is_fitting(&lent, &changes, body) {
         return Err(Refusal::TableFull);

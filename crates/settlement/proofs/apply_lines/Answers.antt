@@ -13,7 +13,7 @@ use Rattle.facts.proofs.LinkLaws.{link_fits, ends-below}
 use Rattle.recording.proofs.Passed.{row_fits}
 use Rattle.settlement.specs.Replies.{ReadyIn, Applied}
 use Rattle.settlement.proofs.Stepping.{lent_is}
-use Rattle.settlement.proofs.Applying.{postable, zeros, zeros_room, changed, posted_rules, fits-is, applied, applied_not}
+use Rattle.settlement.proofs.Applying.{postable_in, zeros, zeros_room, changed, posted_rules, fits-is, applied, applied_not}
 use Rattle.settlement.proofs.apply_lines.Goals as goal
 use Rattle.settlement.proofs.apply_lines.Goals.{After-lent-lent, After-is_fitting, After-write_rows}
 
@@ -36,7 +36,7 @@ link_ends-ends-requires c =
 pub post-requires-clause-postable : goal.post-requires-clause-postable
 post-requires-clause-postable c =
     let l = c.lent-lent.result in
-    postable l.book (lists_of l) c.args.body (ready (goal.at.post-requires-clause-postable c).After-lent-lent)
+    postable_in l.book (lists_of l) c.args.body (ready (goal.at.post-requires-clause-postable c).After-lent-lent)
 
 pub post-requires-clause-room : goal.post-requires-clause-room
 unfolding zeros

@@ -5,10 +5,10 @@ use Rattle.rules.specs.declared.Body.TheVariants.{Reading}
 use Rattle.rules.specs.World.{World}
 use Rattle.rules.specs.Lent.{world_in, lent_world, open_lists, open_world}
 use Rattle.rules.proofs.Parts.{dated}
-use Rattle.posting.specs.Posted.{Postable}
+use Rattle.posting.specs.Posted.{Postable, charging}
 use Rattle.metering.specs.Hours.{ReadingSettled}
 use Rattle.recording.proofs.Passed.{reading-fits}
-use Rattle.settlement.proofs.Applying.{postable}
+use Rattle.settlement.proofs.Applying.{postable_in}
 use Rattle.settlement.proofs.ReadingApplied.{lines-asked, reading_applied, reading-refused}
 use Rattle.settlement.proofs.apply_reading.Goals as goal
 use Rattle.settlement.proofs.apply_reading.Goals.{Start, After-take-lines, After-lent, After-settle_reading-fits}
@@ -31,7 +31,8 @@ settle_reading-fits-requires c =
     let e = without_lines (goal.at.settle_reading-fits-requires c).After-lent in
     let t = taken (goal.at.settle_reading-fits-requires c).After-take-lines in
     record {
-      postable = subst (λ (w : World). Postable w.opening w.position.tables body) (sym e) (postable b.book (open_lists b) body c.requires);
+      postable = subst (λ (w : World). Postable w.opening (charging w.position.tables) body) (sym e)
+          (postable_in b.book (open_lists b) body c.requires);
       lines = rw (t, c.lent.ensures.book) (lines-asked b.book (open_lists b) c.requires.whole);
       dated = rw c.lent.ensures.book (dated b.book (open_lists b) c.requires.whole);
     }
