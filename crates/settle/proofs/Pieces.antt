@@ -1,6 +1,7 @@
 -- Bytes of a buffer copied to its front: those that are kept.
-use mathlib.Core.Path.{◌≡◌, sym, ap, ◌∙◌}
-use mathlib.Core.List.{List, [], ◌∷◌, ◌++◌}
+use mathlib.Core.Path.{◌≡◌, refl, sym, ap, ◌∙◌}
+use mathlib.Core.Bool.{Bool, true, false, false≢true}
+use mathlib.Core.List.{List, [], ◌∷◌, ◌++◌, append-nil}
 use Prim.Native.Nat.{ℕ, zero, suc, ◌+◌, ◌-◌, ◌≤◌}
 use native.Mathlib.Omega.{arith}
 use native.Mathlib.Nat.{zero-add}
@@ -8,6 +9,11 @@ use lib.ListN.{length, take, drop, length-drop}
 use lib.Seq.{take-nil, take-paste, take-add, drop_at, take-append-le, length-take-le}
 use borrow.Rule.Slice.PartMut.{put_mid, post_of}
 use Rattle.std.specs.List.{copy_within}
+use Rattle.std.specs.Prelude.{Option, None, Some}
+use Rattle.std.specs.Io.KnownBytes.{Consumes}
+use Rattle.settle.specs.declared.Next.{Next}
+use Rattle.settle.specs.declared.Session.{Session}
+use Rattle.settle.specs.Sessions.{is_read, Arrived}
 
 -- what is left of the first bytes
 part-rest : (at n : ℕ) (b : List ℕ) → drop at (take (at + n) b) ≡ take n (drop at b)
@@ -34,3 +40,30 @@ read_behind held count n b free h l =
     take-add held count (put_mid held n b free)
     ∙ ap (λ (y : List ℕ). front ++ take count y) (drop_at (take held b) (free ++ post_of held n b) held (length-take-le held b h))
     ∙ ap (λ (y : List ℕ). front ++ y) (take-append-le count free (post_of held n b) l)
+
+-- where more bytes are in hand or the input has ended, nothing is read
+no_read : (n : Next) → (n ≡ Next.Read → ⊥) → is_read n ≡ false
+no_read Next.Read h = absurd (h refl)
+no_read Next.Held h = refl
+no_read Next.Last h = refl
+
+consumes_none : (remaining : Option (List ℕ)) → Consumes remaining remaining []
+consumes_none None = _
+consumes_none (Some xs) = refl
+
+pub nothing_read : (remaining : Option (List ℕ)) (s : Session) (buffer : List ℕ) → s.held ≤ length buffer → (s.next ≡ Next.Read → ⊥)
+    → Arrived remaining remaining s buffer s
+nothing_read remaining s buffer h n =
+    let z = no_read s.next n in
+    record {
+      come = [];
+      read = consumes_none remaining;
+      progress = refl;
+      bytes = sym (append-nil (take s.held buffer));
+      held = h;
+      ended = λ e. (e, refl);
+      at_end = λ e. absurd (false≢true (sym z ∙ e));
+      told = λ e. absurd (n e);
+      stays = λ e. (refl, refl);
+      ready = z;
+    }

@@ -1,6 +1,6 @@
 -- A session of the program: what a turn takes in, what it promises, and how the program ends.
 use Rattle.std.specs.Prelude.{ℕ, ◌+◌, ◌-◌, ◌≤◌, ◌<◌, ◌≡◌, ◌≢◌, Bool, true, false, cond, ⊤, Option, Result, Ok, Err}
-use Rattle.std.specs.Prelude.{List, [], ◌++◌, length, take}
+use Rattle.std.specs.Prelude.{List, [], ◌++◌, length, take, eqb}
 use Rattle.std.specs.Io.KnownBytes.{Appends, Consumes, IsAtEnd}
 use Rattle.rules.specs.Lent.{Lists}
 use Rattle.runner.specs.declared.Progress.{Progress}
@@ -40,6 +40,8 @@ pub record Arrived (remaining remaining' : Option (List ℕ)) (s : Session) (buf
   pub held : s'.held ≤ length buffer
   pub ended : is_last s.next ≡ true → (is_last s'.next ≡ true) × (come ≡ [])
   pub at_end : is_read s.next ≡ true → is_last s'.next ≡ true → s.held < length buffer → IsAtEnd remaining'
+  -- the input has ended where a read has brought nothing, and only there
+  pub told : s.next ≡ Next.Read → is_last s'.next ≡ eqb s'.held s.held
   pub stays : is_read s.next ≡ false → (s' ≡ s) × (remaining' ≡ remaining)
   pub ready : is_read s'.next ≡ false
 
