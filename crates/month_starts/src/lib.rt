@@ -4,7 +4,7 @@
 
 pub mod comparison;
 
-ghost use Rattle.std.specs.Prelude.{◌≡◌, Bool, ◌*◌, ◌≤◌, ◌<◌, length, OnOk};
+ghost use Rattle.std.specs.Prelude.{◌≡◌, Bool, ◌*◌, ◌≤◌, ◌<◌, length, is_ok, OnOk};
 ghost use Rattle.std.specs.Io.KnownBytes.{Appends};
 ghost use Rattle.std.specs.Process.{exit_status};
 ghost use Rattle.calendar.specs.Gregorian.{is_leap, days_of_month, days_after, listed_months};
@@ -92,15 +92,23 @@ pub fn write_month_starts<W: Write>(output: &mut W) -> io::Result<()>
     write_whole(output, &text[..count])
 }
 
+// The program's status: whether the text was written.
+fn status(outcome: &io::Result<()>) -> ExitCode
+    ensures { exit_status result ≡ status_of (is_ok outcome.now) }
+{
+    match outcome {
+        Ok(()) => ExitCode::SUCCESS,
+        Err(_) => ExitCode::FAILURE,
+    }
+}
+
 // What the program does, and its status: `main` of `month_starts_program` ends with it.
 pub fn month_starts_run<R: Print + Eprint>(rt: &R) -> ExitCode
     ensures { (written : Bool) × (exit_status result ≡ status_of written) }
 {
-    match write_month_starts(&mut io::writer(rt)) {
-        Ok(()) => ExitCode::SUCCESS,
-        Err(e) => {
-            let _ = eprintln!(rt; "month_starts: the output could not be written: {e}");
-            ExitCode::FAILURE
-        }
+    let outcome = write_month_starts(&mut io::writer(rt));
+    if let Err(e) = &outcome {
+        let _ = eprintln!(rt; "month_starts: the output could not be written: {e}");
     }
+    status(&outcome)
 }
