@@ -2,20 +2,21 @@
 use native.Mathlib.Omega.{arith}
 use mathlib.Core.Path.{◌≡◌, sym, ap, ◌∙◌}
 use mathlib.Core.Bool.{Bool, true, false, ◌&&◌, and_assoc}
+use Rattle.rules.specs.declared.Book.{Book}
 use Rattle.rules.specs.declared.Lent.{Lent}
 use Rattle.rules.specs.WellFormed.{within_limits, rows_fit, question2, line_places}
 use Rattle.rules.specs.World.{line_count}
 use Rattle.rules.specs.Opening.{opening_answer}
 use Rattle.rules.specs.Whole.{Limits}
-use Rattle.rules.specs.Lent.{lent_opening, lent_tables, lent_world}
+use Rattle.rules.specs.Lent.{Lists, world_in, opening_in, tables_in, lent_world}
 use Rattle.rules.proofs.Tests.{both}
 use Rattle.rules.proofs.Parts.{limits, lengths_asked}
 use Rattle.rules.proofs.Begin.{passed}
 use Rattle.settlement_book.specs.Lengths.{Measured}
 
-pub limited : (l : Lent) → question2 (lent_world l) ≡ true → Limits (lent_opening l)
+pub limited : (b : Book) (o : Lists) → question2 (world_in b o) ≡ true → Limits (opening_in b o)
 unfolding question2
-limited l h = limits (lent_opening l) (both (within_limits (lent_opening l)) (rows_fit (lent_tables l)) h).0
+limited b o h = limits (opening_in b o) (both (within_limits (opening_in b o)) (rows_fit (tables_in b o)) h).0
 
 pub measured : (l : Lent) → opening_answer (lent_world l) ≡ 0 → Measured l
 unfolding line_places line_count

@@ -24,7 +24,7 @@ pub mod questions;
 use crate::numbers::{
     BOOK_SIZE, FIELDS_SIZE, book_of, fields_of, put_book, put_day, put_line, put_reply,
 };
-use crate::questions::{check_book, check_opening};
+use crate::questions::{Lengths, check_book, check_opening};
 use packed::read_packed;
 use queries::periods_place;
 use queries::sums::packed_sum;
@@ -42,7 +42,13 @@ pub fn open_book(opened: &mut OpenBook) -> Result<(), Refusal>
     ensures world { open_world opened.new ≡ after_opening (open_world opened.old) }
     ensures whole { number_of result ≡ 0 → Whole (open_world opened.new) }
 {
-    check_opening(&opened.lent())?;
+    let lent = opened.lent();
+    check_opening(
+        lent.book,
+        lent.element_data,
+        lent.prices,
+        Lengths::of(&lent),
+    )?;
     clear_tables(opened);
     opened.book = fresh_book(opened.book);
     Ok(())

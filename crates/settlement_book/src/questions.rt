@@ -10,8 +10,9 @@ ghost use Rattle.rules.specs.Effects.{ask_book};
 ghost use Rattle.rules.specs.Opening.{opening_answer};
 ghost use Rattle.rules.specs.Answers.{number_of};
 ghost use Rattle.rules.specs.Whole.{Limits};
-ghost use Rattle.rules.specs.Lent.{Lists, world_in, lent_opening, lent_tables, lent_world};
-ghost use Rattle.settlement_book.specs.Lengths.{Measured};
+ghost use Rattle.rules.specs.Lent.{Lists, world_in, opening_in, tables_in, lend_elements};
+ghost use Rattle.rules.specs.Lent.{lists_of, lent_opening, lent_tables, lent_world};
+ghost use Rattle.settlement_book.specs.Lengths.{lengths_of, Measured};
 
 use calendar::{days_in_month, first_day};
 use ledger::lines::lines_right;
@@ -24,54 +25,80 @@ use tables::{holders_right, links_right, states_right};
 use validation::limits::{is_limited, rows_fit};
 use validation::questions::ask;
 
-// ---- question 3: the lengths of all that is lent
+// ---- question 3
+
+// The lengths of all that is lent.
+#[derive(Clone, Copy, Debug, PartialEq, Eq)]
+pub struct Lengths {
+    pub element_data: usize,
+    pub prices: usize,
+    pub links: usize,
+    pub holders: usize,
+    pub states: usize,
+    pub readings: usize,
+    pub blocks: usize,
+    pub lines: usize,
+    pub sent: usize,
+}
+
+impl Lengths {
+    // Those of one value that lends it all.
+    pub fn of(lent: &Lent) -> Lengths
+        ensures { result ≡ lengths_of (lists_of lent.now) }
+    {
+        Lengths {
+            element_data: lent.element_data.len(),
+            prices: lent.prices.len(),
+            links: lent.links.len(),
+            holders: lent.holders.len(),
+            states: lent.states.len(),
+            readings: lent.readings.len(),
+            blocks: lent.blocks.len(),
+            lines: lent.lines.len(),
+            sent: lent.sent.len(),
+        }
+    }
+}
 
 // 3 bytes and 24 prices for each element.
-#[tactic(auto, using(rules::proofs::Tests::tests), unfolding(rules::specs::WellFormed::opening_sized))]
-fn opening_sized(lent: &Lent) -> bool
-    requires { Limits (lent_opening lent.now) }
-    ensures { result ≡ opening_sized (lent_opening lent.now) }
+fn opening_sized(book: Book, lengths: Lengths) -> bool
+    requires { (o : Lists) → Limits (opening_in book o) }
+    ensures { (o : Lists) → lengths_of o ≡ lengths → result ≡ opening_sized (opening_in book o) }
 {
-    let elements = lent.book.elements as usize;
-    lent.element_data.len() == elements * ELEMENT_SIZE
-        && lent.prices.len() == elements * PRICE_PLACES
+    let elements = book.elements as usize;
+    lengths.element_data == elements * ELEMENT_SIZE && lengths.prices == elements * PRICE_PLACES
 }
 
 // 1,024 places for each table of rows, 24 readings for each point and day, a block for each point.
-#[tactic(auto, using(rules::proofs::Tests::tests), unfolding(rules::specs::WellFormed::tables_sized))]
-fn tables_sized(lent: &Lent) -> bool
-    requires { Limits (lent_opening lent.now) }
-    ensures { result ≡ tables_sized (lent_opening lent.now) (lent_tables lent.now) }
+fn tables_sized(book: Book, lengths: Lengths) -> bool
+    requires { (o : Lists) → Limits (opening_in book o) }
+    ensures { (o : Lists) → lengths_of o ≡ lengths → result ≡ tables_sized (opening_in book o) (tables_in book o) }
 {
-    let points = lent.book.points as usize;
-    let days = days_in_month(lent.book.year, lent.book.month) as usize;
-    lent.links.len() == PLACES
-        && lent.holders.len() == PLACES
-        && lent.states.len() == PLACES
-        && lent.readings.len() == points * days * HOUR_PLACES
-        && lent.blocks.len() == points
+    let points = book.points as usize;
+    let days = days_in_month(book.year, book.month) as usize;
+    lengths.links == PLACES
+        && lengths.holders == PLACES
+        && lengths.states == PLACES
+        && lengths.readings == points * days * HOUR_PLACES
+        && lengths.blocks == points
 }
 
-// Three numbers for each supplier and element.
-#[tactic(auto, using(rules::proofs::Tests::tests), unfolding(rules::specs::WellFormed::lines_sized))]
-fn lines_sized(lent: &Lent, lines: &[i64]) -> bool
-    requires { Limits (lent_opening lent.now) }
-    ensures { result ≡ lines_sized (lent_opening lent.now) lines.now }
+// Three numbers for each supplier and element, of the lines and of what of them was sent.
+fn lines_sized(book: Book, lengths: Lengths) -> bool
+    requires { (o : Lists) → Limits (opening_in book o) }
+    ensures { (o : Lists) → lengths_of o ≡ lengths → result ≡ (lines_sized (opening_in book o) o.lines
+        && lines_sized (opening_in book o) o.sent) }
 {
-    let count = lent.book.suppliers as usize * lent.book.elements as usize;
-    lines.len() == count * LINE_SIZE
+    let count = book.suppliers as usize * book.elements as usize * LINE_SIZE;
+    lengths.lines == count && lengths.sent == count
 }
 
 // Each lent table has its exact length.
-#[tactic(auto, unfolding(rules::specs::WellFormed::question3))]
-fn is_sized(lent: &Lent) -> bool
-    requires { Limits (lent_opening lent.now) }
-    ensures { result ≡ question3 (lent_world lent.now) }
+fn is_sized(book: Book, lengths: Lengths) -> bool
+    requires { (o : Lists) → Limits (opening_in book o) }
+    ensures { (o : Lists) → lengths_of o ≡ lengths → result ≡ question3 (world_in book o) }
 {
-    opening_sized(lent)
-        && tables_sized(lent)
-        && lines_sized(lent, lent.lines)
-        && lines_sized(lent, lent.sent)
+    opening_sized(book, lengths) && tables_sized(book, lengths) && lines_sized(book, lengths)
 }
 
 // ---- questions 2 to 4
@@ -85,14 +112,23 @@ fn is_within_limits(book: Book) -> bool
 }
 
 // The first of questions 2 to 4 that says no.
-#[tactic(auto, unfolding(rules::specs::Effects::ask, rules::specs::Opening::opening_answer, rules::specs::WellFormed::question4))]
-pub fn check_opening(lent: &Lent) -> Result<(), Refusal>
-    ensures { number_of result ≡ opening_answer (lent_world lent.now) }
+pub fn check_opening(
+    book: Book,
+    element_data: &[u8],
+    prices: &[i64],
+    lengths: Lengths,
+) -> Result<(), Refusal>
+    requires { (o : Lists) × (lengths_of (lend_elements element_data.now prices.now o) ≡ lengths) }
+    ensures { (o : Lists) →
+        let t = lend_elements element_data.now prices.now o in
+        lengths_of t ≡ lengths → number_of result ≡ opening_answer (world_in book t) }
 {
-    ask(is_within_limits(lent.book), Refusal::OutOfLimits)?;
-    ask(is_sized(lent), Refusal::WrongLength)?;
-    let right = elements_right(lent.book, lent.element_data, lent.prices);
-    ask(right, Refusal::WrongElement)
+    ask(is_within_limits(book), Refusal::OutOfLimits)?;
+    ask(is_sized(book, lengths), Refusal::WrongLength)?;
+    ask(
+        elements_right(book, element_data, prices),
+        Refusal::WrongElement,
+    )
 }
 
 // ---- question 5
@@ -175,6 +211,6 @@ fn is_right(lent: &Lent) -> bool
 pub fn check_book(lent: &Lent) -> Result<(), Refusal>
     ensures { number_of result ≡ ask_book (lent_world lent.now) 0 }
 {
-    check_opening(lent)?;
+    check_opening(lent.book, lent.element_data, lent.prices, Lengths::of(lent))?;
     ask(is_right(lent), Refusal::IllFormed)
 }
