@@ -110,8 +110,6 @@ fn open_book(
     let fresh = fresh_book(book);
     clear_parts(
         fresh,
-        element_data,
-        prices,
         store.links,
         store.holders,
         store.states,

@@ -4,7 +4,7 @@ ghost use Rattle.rules.specs.Sizes.{most_elements, element_size, price_places, r
 ghost use Rattle.rules.specs.Whole.{Dated, Whole};
 ghost use Rattle.settlement.specs.Replies.{Replied};
 ghost use Rattle.rules.specs.Answers.{number_of};
-ghost use Rattle.rules.specs.Lent.{Lists, lend_elements, given, world_in};
+ghost use Rattle.rules.specs.Lent.{Lists, lend_elements, lend_tables, given, world_in};
 ghost use Rattle.recording.specs.Opened.{cleared};
 ghost use Rattle.file.specs.Program.{settle_answer, settle_records};
 ghost use Rattle.runner.specs.Holding.{HoldsBook, Told};
@@ -112,11 +112,9 @@ pub fn ask_opening(book: Book, element_data: &[u8], prices: &[i64]) -> Result<()
 // Here and in the next three functions the slices come one by one: they are parts of a `Store`'s slices, and two parts of its fields at one
 // place have no generated proof.
 
-// Every table that messages write is 0. Linear in what is lent.
+// Every table that messages write is 0; no element is lent. Linear in what is lent.
 fn clear_lent(
     book: Book,
-    element_data: &[u8],
-    prices: &[i64],
     links: &mut [u64],
     holders: &mut [u64],
     states: &mut [u64],
@@ -125,13 +123,14 @@ fn clear_lent(
     lines: &mut [i64],
     sent: &mut [i64],
 )
-    ensures { given element_data.now prices.now links.new holders.new states.new readings.new blocks.new lines.new sent.new
-        ≡ cleared (given element_data.now prices.now links.old holders.old states.old readings.old blocks.old lines.old sent.old) }
+    ensures { (o : Lists) →
+        lend_tables links.new holders.new states.new readings.new blocks.new lines.new sent.new o
+        ≡ cleared (lend_tables links.old holders.old states.old readings.old blocks.old lines.old sent.old o) }
 {
     clear_tables(&mut OpenBook {
         book,
-        element_data,
-        prices,
+        element_data: &[],
+        prices: &[],
         links,
         holders,
         states,
@@ -145,8 +144,6 @@ fn clear_lent(
 // The parts of the tables are 0. Linear in them.
 pub fn clear_parts(
     book: Book,
-    element_data: &[u8],
-    prices: &[i64],
     links: &mut [u64],
     holders: &mut [u64],
     states: &mut [u64],
@@ -156,16 +153,16 @@ pub fn clear_parts(
     sent: &mut [i64],
 )
     requires fitted { Fitted book × Dated book }
-    requires sized { Sized (given element_data.now prices.now links.old holders.old states.old readings.old blocks.old lines.old sent.old) }
-    ensures { let before = given element_data.now prices.now links.old holders.old states.old readings.old blocks.old lines.old sent.old in
-        let after = given element_data.now prices.now links.new holders.new states.new readings.new blocks.new lines.new sent.new in
+    requires sized { (o : Lists) ×
+        Sized (lend_tables links.old holders.old states.old readings.old blocks.old lines.old sent.old o) }
+    ensures { (o : Lists) →
+        let before = lend_tables links.old holders.old states.old readings.old blocks.old lines.old sent.old o in
+        let after = lend_tables links.new holders.new states.new readings.new blocks.new lines.new sent.new o in
         fronts book after ≡ cleared (fronts book before) }
 {
     let ends = ends_of(book);
     clear_lent(
         book,
-        &element_data[..ends.described],
-        &prices[..ends.priced],
         links,
         holders,
         states,

@@ -34,6 +34,9 @@ clear_parts-requires-clause-fitted c =
     fresh_fits (goal.at.clear_parts-requires-clause-fitted c).After-fresh_book-fresh
     (sym (c.in_default.ensures (lists_in c.args.store.now)))
 
+pub clear_parts-requires-clause-sized : goal.clear_parts-requires-clause-sized
+clear_parts-requires-clause-sized c = (lists_in c.args.store.now, c.requires.sized.tables)
+
 pub month_days-days-requires : goal.month_days-days-requires
 month_days-days-requires c =
     (fresh_fits (goal.at.month_days-days-requires c).After-fresh_book-fresh
@@ -55,7 +58,7 @@ returns-then-last-clause-advances c h values v =
     let t = lists_in c.args.store.now in
     book_opens c.args.book t h values v _ c.requires.sized.tables
     (sym (c.in_default.ensures (lists_in c.args.store.now)))
-    (cleared_by _ _ t _ c.fresh_book-fresh.ensures c.clear_parts.ensures) _ _ _ _ _ c.args.last _ (λ x k. rw c.if-last.true refl)
+    (cleared_by _ _ t _ c.fresh_book-fresh.ensures (c.clear_parts.ensures t)) _ _ _ _ _ c.args.last _ (λ x k. rw c.if-last.true refl)
     (line (goal.at.returns-then-last-clause-advances c).After-put_book-written)
 
 pub returns-else-last-clause-advances : goal.returns-else-last-clause-advances
@@ -63,6 +66,6 @@ returns-else-last-clause-advances c h values v =
     let t = lists_in c.args.store.now in
     book_opens c.args.book t h values v _ c.requires.sized.tables
     (sym (c.in_default.ensures (lists_in c.args.store.now)))
-    (cleared_by _ _ t _ c.fresh_book-fresh.ensures c.clear_parts.ensures) _ _ _ _ _ c.args.last _
+    (cleared_by _ _ t _ c.fresh_book-fresh.ensures (c.clear_parts.ensures t)) _ _ _ _ _ c.args.last _
     (λ x k. rw (c.if-last.false, c.fresh_book-fresh.ensures) k)
     (line (goal.at.returns-else-last-clause-advances c).After-put_book-written)
