@@ -12,7 +12,7 @@ use lib.ListN.{length, get_or, set, drop, take, length-append, drop_of_length-le
 use lib.Seq.{sets, set-get_or, paste, paste-suc, length-paste, take-length, get_or-drop, get_or-append-add, length-take-le}
 use lib.Signed.{pos-nat_abs}
 use lib.Dec.{eqb}
-use borrow.Author.Tests.{eqb-true}
+use borrow.Author.Tests.{eqb-true, eq-eqb}
 use Rattle.integers.proofs.Linear.{lin, read, #, nat, ◌⊝◌, less_itself}
 use Rattle.rules.specs.Sizes.{last_round, line_size, record_size}
 use Rattle.rules.specs.declared.Book.{Book}
@@ -33,7 +33,8 @@ use Rattle.rules.specs.declared.Line.{Line}
 use Rattle.ledger.specs.Bounds.{LineOf}
 use Rattle.ledger.specs.RecordNumbers.{record_numbers, numbers_after}
 use Rattle.ledger.proofs.RecordNumbers.{length-after, numbers_put}
-use Rattle.std.proofs.Common.{not}
+use Rattle.std.proofs.Common.{not, nat_eq, ◌&&◌}
+use Rattle.std.proofs.lemmas.Bool.Decides.{Decides-int_eq}
 use Rattle.std.specs.List.{filter, count_by, range_with_len}
 use Rattle.std.proofs.lemmas.List.{map-id}
 use Rattle.std.proofs.lemmas.List.Sums.{length-filter}
@@ -52,6 +53,10 @@ pub same_test : (a b : Bool) → (a ≡ true → b ≡ true) → (b ≡ true →
 same_test true b f g = sym (f refl)
 same_test false true f g = g refl
 same_test false false f g = refl
+
+pub not_so : (a : Bool) → (a ≡ true → ⊥) → a ≡ false
+not_so true f = absurd (f refl)
+not_so false f = refl
 
 -- ---- a line that has not moved
 
@@ -72,7 +77,7 @@ module _ (ls ts : List ℤ) (at : ℕ) where
 
   -- and back, of lines in their one form
   module _ (h : Comparable ls ts at) (u : unmoved_at ls ts at ≡ true) where
-    both-same : (stored_at ls Measure.quantity at ≡ stored_at ts Measure.quantity at)
+    pub both-same : (stored_at ls Measure.quantity at ≡ stored_at ts Measure.quantity at)
         × (stored_at ls Measure.amount at ≡ stored_at ts Measure.amount at)
     unfolding unmoved_at moved_by
     both-same = let p = both (eqb (nat_abs (moved_by ls ts Measure.quantity at)) 0) _ u in
@@ -99,20 +104,32 @@ module _ (ls ts : List ℤ) (at : ℕ) where
         rw (quantity-same, kroner-same, billionths-same, set-get_or ts at (pos 0), set-get_or ts (at + 1) (pos 0))
         (sym (set-get_or ts (at + 2) (pos 0)))
 
-same_three : (a b c d e f : ℤ) → (a ∷ b ∷ c ∷ []) ≡ (d ∷ e ∷ f ∷ []) → (a ≡ d) × (b ≡ e) × (c ≡ f)
-same_three a b c d e f h = (cc, cc, cc)
+-- so a comparison of the two lines, as they are computed with, tells
+module _ (ls ts : List ℤ) (at : ℕ) (l t : Line) {a b c d : ℕ} (h : Comparable ls ts at)
+    (x : LineOf l (stored_at ls Measure.quantity at) (stored_at ls Measure.amount at) a b)
+    (y : LineOf t (stored_at ts Measure.quantity at) (stored_at ts Measure.amount at) c d) where
+  lines-same : l.quantity ≡ t.quantity → l.kroner ≡ t.kroner → l.billionths ≡ t.billionths → unmoved_at ls ts at ≡ true
+  unfolding unmoved_at moved_by
+  lines-same q k n =
+      let e = stored_is ls at h.line-right in
+      let f = stored_is ts at h.total_right in
+      let u = pos-nat_abs (get_or ls (at + 2) (pos 0)) (stored-within ls at h.line-right).billionths.upwards in
+      let v = pos-nat_abs (get_or ts (at + 2) (pos 0)) (stored-within ts at h.total_right).billionths.upwards in
+      same-unmoved ls ts at (e.quantity ∙ sym x.quantity ∙ q ∙ y.quantity ∙ sym f.quantity)
+      (e.kroner ∙ sym x.kroner ∙ k ∙ y.kroner ∙ sym f.kroner)
+      (sym u ∙ ap pos (e.billionths ∙ sym x.billionths ∙ n ∙ y.billionths ∙ sym f.billionths) ∙ v)
 
--- so a comparison of the three numbers tells
-pub unmoved-is : (ls ts : List ℤ) (at n : ℕ) → n ≡ line_size → Comparable ls ts at
-    → pointwise int_eq (take n (drop at ls)) (take n (drop at ts)) ≡ unmoved_at ls ts at
-unmoved-is ls ts at n e h =
-    rw e
-    (let same = signed_items (take line_size (drop at ls)) (take line_size (drop at ts)) in
-    let l = three_numbers ls at h.line in
-    let t = three_numbers ts at h.total in
-    same_test _ _
-    (λ e. let p = same_three _ _ _ _ _ _ (sym l ∙ same.0 e ∙ t) in same-unmoved ls ts at p.0 p.1 p.2)
-    (λ u. same.1 (l ∙ rw (quantity-same ls ts at h u, kroner-same ls ts at h u, billionths-same ls ts at h u) (sym t))))
+  pub line-unmoved : (int_eq l.quantity t.quantity && (int_eq l.kroner t.kroner && nat_eq l.billionths t.billionths)) ≡ unmoved_at ls ts at
+  line-unmoved =
+      same_test _ _
+      (λ e. let p = both (int_eq l.quantity t.quantity) _ e in
+      let r = both (int_eq l.kroner t.kroner) _ p.1 in
+      lines-same ((Decides-int_eq l.quantity t.quantity).0 p.0) ((Decides-int_eq l.kroner t.kroner).0 r.0) (eqb-true _ _ r.1))
+      (λ u. let s = both-same ls ts at h u in
+      let q = x.quantity ∙ s.0 ∙ sym y.quantity in
+      let k = x.kroner ∙ ap kroner_of s.1 ∙ sym y.kroner in
+      let n = x.billionths ∙ ap billionths_of s.1 ∙ sym y.billionths in
+      rw ((Decides-int_eq l.quantity t.quantity).1 q, (Decides-int_eq l.kroner t.kroner).1 k) (eq-eqb _ _ n))
 
 -- each line of a book can be compared
 pub sendable : (b : Book) (ls ts : List ℤ) → Settled b ls ts → (k : ℕ) → k < lines_in b → Sendable b ls ts k

