@@ -251,19 +251,19 @@ pub fn decide(lent: &Lent, message: Message) -> Result<(), Refusal>
             day,
             quantity,
         } => {
-            let place = place_in(lent.book, point, element, day)?;
-            tariff_once(lent, place, quantity)?;
-            ask_place(lent, sender, received, place)?;
-            is_free(lent, place)
+            let link = place_in(lent.book, point, element, day)?;
+            tariff_once(lent, link, quantity)?;
+            ask_place(lent, sender, received, link)?;
+            is_free(lent, link)
         }
         Body::Stop {
             point,
             element,
             day,
         } => {
-            let place = place_in(lent.book, point, element, day)?;
-            ask_place(lent, sender, received, place)?;
-            can_stop(lent, place)
+            let stop = place_in(lent.book, point, element, day)?;
+            ask_place(lent, sender, received, stop)?;
+            can_stop(lent, stop)
         }
         Body::Quantity {
             point,
@@ -271,9 +271,9 @@ pub fn decide(lent: &Lent, message: Message) -> Result<(), Refusal>
             day,
             ..
         } => {
-            let place = place_in(lent.book, point, element, day)?;
-            ask_place(lent, sender, received, place)?;
-            can_change(lent, place)
+            let change = place_in(lent.book, point, element, day)?;
+            ask_place(lent, sender, received, change)?;
+            can_change(lent, change)
         }
         Body::Holder { point, .. } => {
             ask_point(lent.book, point)?;
