@@ -12,7 +12,11 @@ use lib.ListN.{length, get_or, set, drop, take, length-append, drop_of_length-le
 use lib.Seq.{sets, set-get_or, paste, paste-suc, length-paste, take-length, get_or-drop, get_or-append-add, length-take-le}
 use lib.Signed.{pos-nat_abs}
 use lib.Dec.{eqb}
-use borrow.Author.Tests.{eqb-true, eq-eqb}
+use borrow.Author.Tests.{eqb-true}
+use mir.Syntax.{w64}
+use mir.Val.{of_z}
+use Rattle.integers.proofs.Integers.{abs_fits}
+use Rattle.integers.proofs.Order.{bits_same}
 use Rattle.integers.proofs.Linear.{lin, read, #, nat, ◌⊝◌, less_itself}
 use Rattle.rules.specs.Sizes.{last_round, line_size, record_size}
 use Rattle.rules.specs.declared.Book.{Book}
@@ -33,16 +37,6 @@ use Rattle.rules.specs.declared.Line.{Line}
 use Rattle.ledger.specs.Bounds.{LineOf}
 use Rattle.ledger.specs.RecordNumbers.{record_numbers, numbers_after}
 use Rattle.ledger.proofs.RecordNumbers.{length-after, numbers_put}
-use Rattle.std.proofs.Common.{not, nat_eq, ◌&&◌}
-use Rattle.std.proofs.lemmas.Bool.Decides.{Decides-int_eq}
-use Rattle.std.specs.List.{filter, count_by, range_with_len}
-use Rattle.std.proofs.lemmas.List.{map-id}
-use Rattle.std.proofs.lemmas.List.Sums.{length-filter}
-use Rattle.std.proofs.lemmas.List.FromFn.{sum_by-map-range_with_len_more}
-use lib.Pointwise.{pointwise}
-use Rattle.std.specs.Ordering.{int_eq}
-use Rattle.std.specs.Cmp.Rules.{signed_items}
-use Rattle.ledger.proofs.LineNumbers.{three_numbers}
 use Rattle.ledger.proofs.Bounds.{line-is, stored-within, stored_is}
 use Rattle.ledger.specs.Moved.{moved_by, unmoved_at, lines_in, line_record, line_records, moved_count, line_copied, Comparable, Settled}
 use Rattle.ledger.specs.Moved.{Sendable, LineSent}
@@ -77,7 +71,7 @@ module _ (ls ts : List ℤ) (at : ℕ) where
 
   -- and back, of lines in their one form
   module _ (h : Comparable ls ts at) (u : unmoved_at ls ts at ≡ true) where
-    pub both-same : (stored_at ls Measure.quantity at ≡ stored_at ts Measure.quantity at)
+    both-same : (stored_at ls Measure.quantity at ≡ stored_at ts Measure.quantity at)
         × (stored_at ls Measure.amount at ≡ stored_at ts Measure.amount at)
     unfolding unmoved_at moved_by
     both-same = let p = both (eqb (nat_abs (moved_by ls ts Measure.quantity at)) 0) _ u in
@@ -104,32 +98,27 @@ module _ (ls ts : List ℤ) (at : ℕ) where
         rw (quantity-same, kroner-same, billionths-same, set-get_or ts at (pos 0), set-get_or ts (at + 1) (pos 0))
         (sym (set-get_or ts (at + 2) (pos 0)))
 
--- so a comparison of the two lines, as they are computed with, tells
-module _ (ls ts : List ℤ) (at : ℕ) (l t : Line) {a b c d : ℕ} (h : Comparable ls ts at)
-    (x : LineOf l (stored_at ls Measure.quantity at) (stored_at ls Measure.amount at) a b)
-    (y : LineOf t (stored_at ts Measure.quantity at) (stored_at ts Measure.amount at) c d) where
-  lines-same : l.quantity ≡ t.quantity → l.kroner ≡ t.kroner → l.billionths ≡ t.billionths → unmoved_at ls ts at ≡ true
-  unfolding unmoved_at moved_by
-  lines-same q k n =
-      let e = stored_is ls at h.line-right in
-      let f = stored_is ts at h.total_right in
-      let u = pos-nat_abs (get_or ls (at + 2) (pos 0)) (stored-within ls at h.line-right).billionths.upwards in
-      let v = pos-nat_abs (get_or ts (at + 2) (pos 0)) (stored-within ts at h.total_right).billionths.upwards in
-      same-unmoved ls ts at (e.quantity ∙ sym x.quantity ∙ q ∙ y.quantity ∙ sym f.quantity)
-      (e.kroner ∙ sym x.kroner ∙ k ∙ y.kroner ∙ sym f.kroner)
-      (sym u ∙ ap pos (e.billionths ∙ sym x.billionths ∙ n ∙ y.billionths ∙ sym f.billionths) ∙ v)
+-- the same bits are the same numbers
+module _ (ls ts : List ℤ) (at : ℕ) (h : Comparable ls ts at) where
+  pub quantity_bits : of_z w64 (get_or ls at (pos 0)) ≡ of_z w64 (get_or ts at (pos 0)) → get_or ls at (pos 0) ≡ get_or ts at (pos 0)
+  quantity_bits e =
+      let l = (stored-within ls at h.line-right).quantity in
+      let t = (stored-within ts at h.total_right).quantity in
+      bits_same (abs_fits _ (omega arith)) (abs_fits _ (omega arith)) e
 
-  pub line-unmoved : (int_eq l.quantity t.quantity && (int_eq l.kroner t.kroner && nat_eq l.billionths t.billionths)) ≡ unmoved_at ls ts at
-  line-unmoved =
-      same_test _ _
-      (λ e. let p = both (int_eq l.quantity t.quantity) _ e in
-      let r = both (int_eq l.kroner t.kroner) _ p.1 in
-      lines-same ((Decides-int_eq l.quantity t.quantity).0 p.0) ((Decides-int_eq l.kroner t.kroner).0 r.0) (eqb-true _ _ r.1))
-      (λ u. let s = both-same ls ts at h u in
-      let q = x.quantity ∙ s.0 ∙ sym y.quantity in
-      let k = x.kroner ∙ ap kroner_of s.1 ∙ sym y.kroner in
-      let n = x.billionths ∙ ap billionths_of s.1 ∙ sym y.billionths in
-      rw ((Decides-int_eq l.quantity t.quantity).1 q, (Decides-int_eq l.kroner t.kroner).1 k) (eq-eqb _ _ n))
+  pub kroner_bits : of_z w64 (get_or ls (at + 1) (pos 0)) ≡ of_z w64 (get_or ts (at + 1) (pos 0))
+      → get_or ls (at + 1) (pos 0) ≡ get_or ts (at + 1) (pos 0)
+  kroner_bits e =
+      let l = (stored-within ls at h.line-right).kroner in
+      let t = (stored-within ts at h.total_right).kroner in
+      bits_same (abs_fits _ (omega arith)) (abs_fits _ (omega arith)) e
+
+  pub billionths_bits : of_z w64 (get_or ls (at + 2) (pos 0)) ≡ of_z w64 (get_or ts (at + 2) (pos 0))
+      → get_or ls (at + 2) (pos 0) ≡ get_or ts (at + 2) (pos 0)
+  billionths_bits e =
+      let l = (stored-within ls at h.line-right).billionths.below in
+      let t = (stored-within ts at h.total_right).billionths.below in
+      bits_same (abs_fits _ (omega arith)) (abs_fits _ (omega arith)) e
 
 -- each line of a book can be compared
 pub sendable : (b : Book) (ls ts : List ℤ) → Settled b ls ts → (k : ℕ) → k < lines_in b → Sendable b ls ts k
@@ -175,26 +164,6 @@ module _ (ls ts : List ℤ) where
   unfolding moved_count
   count-few zero = omega arith
   count-few (suc k) = let h = count-few k in cases (unmoved_at ls ts (k * line_size)) (λ t. rw t (omega arith)) (λ t. rw t (omega arith))
-
-  -- they are as many as a chain counts of the numbers below
-  pub count_filtered : (n : ℕ) → length (filter (λ k. not (unmoved_at ls ts (k * line_size))) (range_with_len 0 n)) ≡ moved_count ls ts n
-  unfolding moved_count
-  count_filtered n = length-filter moves (range_with_len 0 n) ∙ counted n
-    where
-      moves : ℕ → Bool
-      moves k = not (unmoved_at ls ts (k * line_size))
-
-      one : (u : Bool) → ◌≡◌ {A = ℕ} (cond (not u) 1 0) (cond u 0 1)
-      one true = refl
-      one false = refl
-
-      counted : (n : ℕ) → count_by moves (range_with_len 0 n) ≡ moved_count ls ts n
-      counted zero = refl
-      counted (suc n) =
-          let more = sum_by-map-range_with_len_more (λ k. cond (moves k) 1 0) (λ k. k) 0 n n (zero-add n) in
-          ap (λ m. count_by moves (range_with_len 0 m)) (sym (add-one n))
-          ∙ (rw (map-id, map-id) at more)
-          ∙ ap₂ (λ a b. a + b) (counted n) (one (unmoved_at ls ts (n * line_size)))
 
   -- the first lines have no more than all
   pub count_grows : (k n : ℕ) → moved_count ls ts k ≤ moved_count ls ts (k + n)

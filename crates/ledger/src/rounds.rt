@@ -16,7 +16,7 @@ fn is_unmoved(lines: &[i64], sent: &[i64], at: usize) -> bool
     requires { Comparable lines.now sent.now at }
     ensures { result ≡ unmoved_at lines.now sent.now at }
 {
-    line_at(lines, at) == line_at(sent, at)
+    lines[at] == sent[at] && lines[at + 1] == sent[at + 1] && lines[at + 2] == sent[at + 2]
 }
 
 // How many lines have moved, and so how many records a round has. Linear in the lines.
@@ -25,9 +25,11 @@ pub fn moved_count(book: Book, lines: &[i64], sent: &[i64]) -> usize
     ensures { result ≡ moved_count lines.now sent.now (lines_in book) }
 {
     let count = (book.suppliers * book.elements) as usize;
-    (0..count)
-        .filter(|k| !is_unmoved(lines, sent, *k * LINE_SIZE))
-        .count()
+    let mut n = 0;
+    for k in 0..count {
+        n += usize::from(!is_unmoved(lines, sent, k * LINE_SIZE));
+    }
+    n
 }
 
 // ---- the records as numbers

@@ -116,6 +116,8 @@ fn apply(opened: &mut OpenBook, body: Body) -> Result<(), Refusal>
 }
 
 // Message 8: question 18 of the room for records, then the records, what is sent and the kind of the next round. Linear in the lines.
+// Not inlined into the other messages, among which its loops would lie worse.
+#[inline(never)]
 fn send(opened: &mut OpenBook, records: &mut [i64]) -> Result<usize, Refusal>
     requires { Settled opened.old.book opened.old.lines.now opened.old.sent.now }
     ensures same { SameLent opened.old opened.new }
