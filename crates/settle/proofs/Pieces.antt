@@ -1,4 +1,4 @@
--- Bytes of a buffer copied to its front: those that are kept.
+-- Bytes of a buffer copied to its front: those that are kept. Bytes read behind those in hand, and what is so where nothing is read.
 use mathlib.Core.Path.{◌≡◌, refl, sym, ap, ◌∙◌}
 use mathlib.Core.Bool.{Bool, true, false, false≢true}
 use mathlib.Core.List.{List, [], ◌∷◌, ◌++◌, append-nil}
@@ -13,7 +13,7 @@ use Rattle.std.specs.Prelude.{Option, None, Some}
 use Rattle.std.specs.Io.KnownBytes.{Consumes}
 use Rattle.settle.specs.declared.Next.{Next}
 use Rattle.settle.specs.declared.Session.{Session}
-use Rattle.settle.specs.Sessions.{is_read, Arrived}
+use Rattle.settle.specs.Sessions.{is_read, Received}
 
 -- what is left of the first bytes
 part-rest : (at n : ℕ) (b : List ℕ) → drop at (take (at + n) b) ≡ take n (drop at b)
@@ -52,18 +52,20 @@ consumes_none None = _
 consumes_none (Some xs) = refl
 
 pub nothing_read : (remaining : Option (List ℕ)) (s : Session) (buffer : List ℕ) → s.held ≤ length buffer → (s.next ≡ Next.Read → ⊥)
-    → Arrived remaining remaining s buffer s
+    → Received remaining remaining s buffer s
 nothing_read remaining s buffer h n =
     let z = no_read s.next n in
     record {
-      come = [];
-      read = consumes_none remaining;
-      progress = refl;
-      bytes = sym (append-nil (take s.held buffer));
-      held = h;
-      ended = λ e. (e, refl);
-      at_end = λ e. absurd (false≢true (sym z ∙ e));
+      arrived = record {
+        come = [];
+        read = consumes_none remaining;
+        progress = refl;
+        bytes = sym (append-nil (take s.held buffer));
+        held = h;
+        ended = λ e. (e, refl);
+        at_end = λ e. absurd (false≢true (sym z ∙ e));
+        stays = λ e. (refl, refl);
+        ready = z;
+      };
       told = λ e. absurd (n e);
-      stays = λ e. (refl, refl);
-      ready = z;
     }

@@ -40,10 +40,13 @@ pub record Arrived (remaining remaining' : Option (List ℕ)) (s : Session) (buf
   pub held : s'.held ≤ length buffer
   pub ended : is_last s.next ≡ true → (is_last s'.next ≡ true) × (come ≡ [])
   pub at_end : is_read s.next ≡ true → is_last s'.next ≡ true → s.held < length buffer → IsAtEnd remaining'
-  -- the input has ended where a read has brought nothing, and only there
-  pub told : s.next ≡ Next.Read → is_last s'.next ≡ eqb s'.held s.held
   pub stays : is_read s.next ≡ false → (s' ≡ s) × (remaining' ≡ remaining)
   pub ready : is_read s'.next ≡ false
+
+-- what `read_on` promises: bytes have come so, and the input has ended where the read has brought nothing, and only there
+pub record Received (remaining remaining' : Option (List ℕ)) (s : Session) (buffer : List ℕ) (s' : Session) : Type 0 where
+  pub arrived : Arrived remaining remaining' s buffer s'
+  pub told : s.next ≡ Next.Read → is_last s'.next ≡ eqb s'.held s.held
 
 -- ---- a turn
 

@@ -11,7 +11,7 @@ ghost use Rattle.rules.specs.Lent.{Lists};
 ghost use Rattle.file.specs.Program.{settle_records, settle_points, settled};
 ghost use Rattle.runner.specs.Parts.{lists_in, Stocked, SameSlices};
 ghost use Rattle.runner.specs.Texts.{longest_text, last_number};
-ghost use Rattle.settle.specs.Sessions.{is_last, next_after, Arrived, buffer_size, Lent};
+ghost use Rattle.settle.specs.Sessions.{is_last, next_after, Received, buffer_size, Lent};
 ghost use Rattle.settle.specs.Sessions.{Turns, Begun, status_of, failure_status, Ended, Carried};
 
 use rules::{PLACES, RECORD_NUMBERS};
@@ -136,7 +136,7 @@ fn read_on<E: Eprint, R: Read>(
     requires { session.held ≤ length buffer.old }
     ensures front { take session.held buffer.new ≡ take session.held buffer.old }
     ensures read { MatchResult result
-        (λ s. Arrived (R.remaining reader.old) (R.remaining reader.new) session buffer.new s)
+        (λ s. Received (R.remaining reader.old) (R.remaining reader.new) session buffer.new s)
         (λ f. (f ≡ Failure.Unread) × (session.next ≡ Next.Read) × Keeps (R.remaining reader.old) (R.remaining reader.new)) }
 {
     let Next::Read = session.next else {

@@ -11,16 +11,18 @@ returns-else-count-eq0-clause-read g c =
     let a = c.args in
     let r = c.in-Ok.ensures in
     record {
-      come = _;
-      read = r.bytes.0;
-      progress = refl;
-      bytes = read_behind a.session.held c.in-Ok.count _ a.buffer.now c.read_some.new.free c.requires r.bound.0;
-      held = omega (arith, r.bound.0, c.read_some.auto);
-      ended = λ e. never (sym (rw c.in-Read.is at e));
-      at_end = λ e f. never (sym f);
+      arrived = record {
+        come = _;
+        read = r.bytes.0;
+        progress = refl;
+        bytes = read_behind a.session.held c.in-Ok.count _ a.buffer.now c.read_some.new.free c.requires r.bound.0;
+        held = omega (arith, r.bound.0, c.read_some.auto);
+        ended = λ e. never (sym (rw c.in-Read.is at e));
+        at_end = λ e f. never (sym f);
+        stays = λ e. never (rw c.in-Read.is at e);
+        ready = refl;
+      };
       told = λ e. sym (ne_eqb _ _ (λ q. omega (arith, q, c.if-count-eq0.false)));
-      stays = λ e. never (rw c.in-Read.is at e);
-      ready = refl;
     }
 
 pub returns-in_default : goal.returns-in_default

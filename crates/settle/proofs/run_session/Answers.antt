@@ -15,7 +15,7 @@ returns-in_err-write_out-clause-ended g c =
     let l = c.loop-turn in
     unwritten_so l._turn l.session _ _ _ _ _ _ l.invariant.going c.read_on.new.buffer c.in_ok-session.ensures.front _
     c.in_ok-session.session
-    c.in_ok-session.ensures.read c.turn-turned.result c.turn-turned.new.store _ _ c.turn-turned.ensures.turns (omega (
+    c.in_ok-session.ensures.read.arrived c.turn-turned.result c.turn-turned.new.store _ _ c.turn-turned.ensures.turns (omega (
       arith,
       c.read_on.auto,
     )) _ _ (search rules)
@@ -24,7 +24,7 @@ pub returns-in-Over-clause-ended : goal.returns-in-Over-clause-ended
 returns-in-Over-clause-ended g c =
     let l = c.loop-turn in
     over_so l._turn l.session _ _ _ _ _ _ l.invariant.going c.read_on.new.buffer c.in_ok-session.ensures.front _ c.in_ok-session.session
-    c.in_ok-session.ensures.read c.turn-turned.result c.turn-turned.new.store _ _ c.turn-turned.ensures.turns (omega (
+    c.in_ok-session.ensures.read.arrived c.turn-turned.result c.turn-turned.new.store _ _ c.turn-turned.ensures.turns (omega (
       arith,
       c.read_on.auto,
     )) _
@@ -34,7 +34,7 @@ pub returns-in-Over-clause-settles : goal.returns-in-Over-clause-settles
 returns-in-Over-clause-settles g c =
     let l = c.loop-turn in
     settles_so l._turn l.session _ _ _ _ _ _ l.invariant.going c.read_on.new.buffer c.in_ok-session.ensures.front _ c.in_ok-session.session
-    c.in_ok-session.ensures.read c.turn-turned.result c.turn-turned.new.store _ _ c.turn-turned.ensures.turns (omega (
+    c.in_ok-session.ensures.read.arrived c.turn-turned.result c.turn-turned.new.store _ _ c.turn-turned.ensures.turns (omega (
       arith,
       c.read_on.auto,
     )) _
@@ -45,7 +45,7 @@ loop-turn-preserved g c =
     let l = c.loop-turn in
     record {
       going = going_on l._turn l.session _ _ _ _ _ _ l.invariant.going c.read_on.new.buffer c.in_ok-session.ensures.front _
-          c.in_ok-session.session c.in_ok-session.ensures.read c.turn-turned.result c.turn-turned.new.store _ _ c.turn-turned.ensures.turns
+          c.in_ok-session.session c.in_ok-session.ensures.read.arrived c.turn-turned.result c.turn-turned.new.store _ _ c.turn-turned.ensures.turns
           (omega (arith, c.read_on.auto)) _
           c.in_ok-write_out.ensures c.in_default.not-Over c.turn-turned.ensures.stocked (omega (arith, c.turn-turned.auto));
       same = search rules;
