@@ -45,8 +45,8 @@ loop-turn-preserved g c =
     let l = c.loop-turn in
     record {
       going = going_on l._turn l.session _ _ _ _ _ _ l.invariant.going c.read_on.new.buffer c.in_ok-session.ensures.front _
-          c.in_ok-session.session c.in_ok-session.ensures.read.arrived c.turn-turned.result c.turn-turned.new.store _ _ c.turn-turned.ensures.turns
-          (omega (arith, c.read_on.auto)) _
+          c.in_ok-session.session c.in_ok-session.ensures.read.arrived c.turn-turned.result c.turn-turned.new.store _ _
+          c.turn-turned.ensures.turns (omega (arith, c.read_on.auto)) _
           c.in_ok-write_out.ensures c.in_default.not-Over c.turn-turned.ensures.stocked (omega (arith, c.turn-turned.auto));
       same = search rules;
     }
